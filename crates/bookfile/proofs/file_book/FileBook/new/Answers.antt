@@ -1,0 +1,22 @@
+use mathlib.Core.Path.{_≡_, sym, ap, _∙_, subst}
+use mathlib.Core.Bool.{false}
+use Prim.Native.Nat.{_≤_}
+use Rattle.std.specs.Options.{isSome}
+use Rattle.refusals.specs.declared.Section.the-variants.{Rules}
+use Rattle.rows.specs.Tables.{rule-in, rows-check, rules-in}
+use Rattle.bookfile.specs.Layout.{rows-from, rule-count}
+use Rattle.bookfile.specs.Checks.{book-check}
+use Rattle.bookfile.proofs.Passed.{made-few, made-checked, made-counted}
+use Rattle.bookfile.proofs.file_book.FileBook.new.Needs as need
+
+pub ghost-result : need.ghost-result
+ghost-result c = (
+  subst (λ n. n ≤ 512) (sym (c .checked-count .ensures)) (made-few (c .args .bytes .now)),
+  (
+    subst (λ n. isSome (rows-check Rules (c .args .bytes .now) rows-from n) ≡ false) (sym (c .checked-count .ensures)) (made-checked (c .args .bytes .now)),
+    tt,
+  ),
+)
+
+pub returns : need.returns
+returns c = ap (rules-in (c .args .bytes .now) rows-from) (c .checked-count .ensures) ∙ made-counted (rule-in (c .args .bytes .now) rows-from) (book-check (c .args .bytes .now)) (rule-count (c .args .bytes .now))

@@ -1,0 +1,25 @@
+use mathlib.Core.Path.{_≡_, sym, ap, _∙_, subst}
+use mathlib.Core.Bool.{false}
+use mathlib.Core.List.{List}
+use Prim.Native.Nat.{ℕ, _+_}
+use Rattle.std.specs.Options.{isSome}
+use Rattle.refusals.specs.Checks.{first-below}
+use Rattle.bookfile.specs.Layout.{name-count, names-from, name-in, names-in}
+use Rattle.bookfile.specs.Checks.{name-check, book-check}
+use Rattle.bookfile.specs.Made.{count-where-passes}
+use Rattle.bookfile.proofs.Passed.{made-names-checked, made-counted}
+use Rattle.bookfile.proofs.name_list.Names.new.Needs as need
+
+pub ghost-result : need.ghost-result
+ghost-result c = (
+  subst (λ n. isSome (first-below n (name-check (c .args .bytes .now) (c .names-count-at .result + 1))) ≡ false) (sym (c .checked-count .ensures))
+      (subst (λ at. isSome (first-below (count-where-passes (book-check (c .args .bytes .now)) (name-count (c .args .bytes .now))) (name-check (c .args .bytes .now) (at + 1))) ≡ false) (sym (c .names-count-at .ensures .value))
+      (made-names-checked (c .args .bytes .now))),
+  tt,
+)
+
+pub returns : need.returns
+returns c =
+    ap (names-in (c .args .bytes .now) (c .names-count-at .result + 1)) (c .checked-count .ensures)
+    ∙ ap (λ at. names-in (c .args .bytes .now) (at + 1) (count-where-passes (book-check (c .args .bytes .now)) (name-count (c .args .bytes .now)))) (c .names-count-at .ensures .value)
+    ∙ made-counted (name-in (c .args .bytes .now) (names-from (c .args .bytes .now))) (book-check (c .args .bytes .now)) (name-count (c .args .bytes .now))

@@ -1,0 +1,5 @@
+pub mod Layout
+pub mod Checks
+pub mod Faults
+pub mod Made
+pub mod Views

@@ -1,0 +1,3 @@
+pub mod Cases
+pub mod Lists
+pub mod Faults

@@ -1,0 +1,12 @@
+// Reading the steps of a case file.
+mod fault;
+mod lists;
+mod steps;
+
+pub use fault::CaseFault;
+pub use fault::CaseFaultTold;
+pub use lists::MarkList;
+pub use lists::StepLists;
+pub use steps::read_count;
+pub use steps::read_end;
+pub use steps::read_step;

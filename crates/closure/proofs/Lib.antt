@@ -1,0 +1,4 @@
+pub mod Applying
+pub mod Adding
+pub mod Counting
+pub mod Closing

@@ -1,0 +1,2 @@
+pub mod Closes
+pub mod Rounds

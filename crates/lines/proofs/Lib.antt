@@ -1,0 +1,4 @@
+pub mod Buffers
+pub mod Decimals
+pub mod Room
+pub mod Lengths

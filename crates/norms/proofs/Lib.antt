@@ -1,0 +1,4 @@
+pub mod Rounds
+pub mod Models
+pub mod Places
+pub mod Listing

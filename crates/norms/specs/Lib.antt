@@ -1,0 +1,5 @@
+pub mod Programs
+pub mod Rules
+pub mod Steps
+pub mod Findings
+pub mod Laws

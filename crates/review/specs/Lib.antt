@@ -1,0 +1,4 @@
+pub mod Lists
+pub mod Proposals
+pub mod Listings
+pub mod Faults
