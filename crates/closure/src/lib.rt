@@ -4,6 +4,7 @@ ghost use Rattle.std.specs.Orderings.{Decides};
 ghost use Rattle.std.specs.shelf.Lists.{Has};
 ghost use Rattle.marks.specs.Sets.{Set};
 ghost use Rattle.marks.specs.Words.{members};
+ghost use Rattle.norms.specs.Laws.{Lawful};
 ghost use Rattle.norms.specs.Programs.{Round};
 ghost use Rattle.norms.specs.Rules.{holds-rule, breach-rule, Frame, Norms};
 ghost use Rattle.closure.specs.Closes.{Closes};
@@ -25,6 +26,7 @@ pub struct Closure {
 pub fn close<B: Book>(book: &B, proposed: &MarkSet, given: &MarkSet) -> Closure
     ensures closes { λ r. ⌜ Closes (B·Book .rules (now (book .entry))) (members (now (proposed .entry))) (members (now (given .entry))) (members (r .marks)) (r .depth) ⌝ }
     ensures few { λ r. ⌜ r .depth ≤ 1024 ⌝ }
+    ensures lawful { λ _. ⌜ Lawful (B·Book .rules (now (book .entry))) ⌝ }
 {
     let mut marks = *given;
     let mut depth = 0;

@@ -5,7 +5,7 @@
 --     One-depth P          rounds lead to rest in one way: to the same set, after the same number of rounds
 --     Stable-is-smallest P a proposal is stable exactly when it is the smallest closed set of its own reduct
 --     None-inside P        no stable model over the same given marks is a part of another
---     Every-book Law       the law holds of the rules of every book with the frame rules
+--     Lawful rules         all of these, of the rules of a book with the frame rules
 -- Of the findings of steps, as dated marks:
 --     Finds steps d        the step of d's number stands, and the mark of d is a finding of it
 --     Before d e           d is of an earlier step than e, or of the same step and has the lower mark
@@ -39,8 +39,12 @@ module _ {A : Type 0} where
   abbrev pub None-inside : Program A → Type 0
   None-inside P = (G M N : Set A) → Stable P G M → Stable P G N → M ⊆ N → M ≡ N
 
-abbrev pub Every-book : (Program ℕ → Type 0) → Type 0
-Every-book Law = (rules : List (Rule ℕ)) → Law (Norms rules)
+pub record Lawful (rules : List (Rule ℕ)) : Type 0 where
+  pub one-smallest : One-smallest (Norms rules)
+  pub rounds-reach : Rounds-reach (Norms rules)
+  pub one-depth : One-depth (Norms rules)
+  pub stable-is-smallest : Stable-is-smallest (Norms rules)
+  pub none-inside : None-inside (Norms rules)
 
 abbrev pub Finds : List Step → ℕ × ℕ → Type 0
 Finds steps d =

@@ -18,17 +18,10 @@ use Rattle.marks.specs.Sets.{Set, _∈_, _⊆_, among}
 use Rattle.norms.specs.Programs.{Rule}
 use Rattle.norms.specs.Steps.{Step, given}
 use Rattle.norms.specs.Findings.{findings-in}
+use Rattle.norms.proofs.Models.{same-set}
 use Rattle.closure.specs.Closes.{Closes}
 use Rattle.review.specs.Lists.{said-check, proposed-check}
 use Rattle.review.specs.Proposals.{lists-check, Passes, Judged, JudgedAfter}
-
-both-ways : (S R : Set ℕ) → S ⊆ R → R ⊆ S → S ≡ R
-both-ways S R f g = fun-ext λ m. go (S m) (R m) (f m) (g m)
-  where
-    go : (a b : Bool) → (a ≡ true → b ≡ true) → (b ≡ true → a ≡ true) → a ≡ b
-    go true b p q = sym (p refl)
-    go false true p q = q refl
-    go false false p q = refl
 
 pub lists-pass : (steps : List Step) (said proposed : List ℕ) → length steps < 64 → said-check said ≡ None → proposed-check proposed ≡ None → lists-check steps said proposed ≡ None
 lists-pass steps said proposed h e f =
@@ -40,7 +33,7 @@ module _ (rules : List (Rule ℕ)) (steps : List Step) (said proposed : List ℕ
       → Closes rules M G L d → L ⊆ M → M ⊆ L → n ≡ length steps + 1 → f ≡ length (findings-in M)
       → Passes rules steps said proposed (record { step = n; depth = d; findings = f })
   step-passes S M G L n d f eS eM eG closes down up number count =
-      let own : Closes rules M G M d = subst (λ X. Closes rules M G X d) (both-ways L M down up) closes in
+      let own : Closes rules M G M d = subst (λ X. Closes rules M G X d) (same-set L M down up) closes in
       let named : Closes rules (among proposed) G (among proposed) d = subst (λ X. Closes rules X G X d) eM own in
       let all : Closes rules (among proposed) (given steps (among said)) (among proposed) d =
       subst (λ X. Closes rules (among proposed) X (among proposed) d) (eG ∙ ap (given steps) eS) named in

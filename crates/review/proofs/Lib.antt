@@ -1,2 +1,3 @@
 pub mod Gather
 pub mod Judging
+pub mod Settling

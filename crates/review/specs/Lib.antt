@@ -2,3 +2,4 @@ pub mod Lists
 pub mod Proposals
 pub mod Listings
 pub mod Faults
+pub mod Settled

@@ -2,6 +2,7 @@ use Prim.Native.Nat.{_≤_, _<_}
 use native.Mathlib.Omega.{arith}
 use Rattle.marks.specs.Words.{members}
 use Rattle.norms.specs.Programs.{none}
+use Rattle.norms.proofs.Models.{lawful}
 use Rattle.closure.proofs.Counting.{many, many-le}
 use Rattle.closure.proofs.Closing.{count-rises, rounds-more, closes}
 use Rattle.closure.proofs.close.Given.{Over}
@@ -15,6 +16,7 @@ returns-then-is-none g c =
     record {
       closes = closes _ _ _ _ _ _ _ (c .round-next .ensures) (c .beyond .ensures) (c .if-is-none .ensures tt) (c .loop-next .inv .0);
       few = omega (arith, c .loop-next .inv .1, many-le 1024 (members (c .loop-next .marks)));
+      lawful = lawful (g .B·Book .rules (c .args .book .now));
     }
 
 pub add-depth : need.add-depth

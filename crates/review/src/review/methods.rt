@@ -10,6 +10,7 @@ ghost use Rattle.steps.specs.Standing.{standing};
 ghost use Rattle.review.specs.Faults.{propose-told, list-told};
 ghost use Rattle.review.specs.Listings.{listing};
 ghost use Rattle.review.specs.Proposals.{Judged, stand-after};
+ghost use Rattle.review.specs.Settled.{Settled};
 use crate::fault::ListFault;
 use crate::fault::ProposeFault;
 use crate::review::Accepted;
@@ -49,6 +50,7 @@ impl<B: Book> Review<B> {
     pub fn propose(&mut self, said: &[u16], proposed: &[u16]) -> Result<Accepted, ProposeFault>
         ensures judged { λ r. ⌜ Judged (B·Book .rules (now (self .entry) .book)) (standing (now (self .entry) .steps)) (now (said .entry)) (now (proposed .entry)) (answered propose-told r) ⌝ }
         ensures stands { λ r. ⌜ standing (now (self .exit) .steps) ≡ stand-after (standing (now (self .entry) .steps)) (now (said .entry)) (now (proposed .entry)) (answered propose-told r) ⌝ }
+        ensures law { λ _. ⌜ Settled (B·Book .rules (now (self .entry) .book)) (standing (now (self .entry) .steps)) (now (said .entry)) (now (proposed .entry)) ⌝ }
         ensures book { λ _. ⌜ now (self .exit) .book ≡ now (self .entry) .book ⌝ }
         ensures refused { λ r. ⌜ refused r (λ _. now (self .exit) ≡ now (self .entry)) ⌝ }
     {
