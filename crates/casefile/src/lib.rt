@@ -5,7 +5,6 @@ mod steps;
 
 pub use fault::CaseFault;
 pub use fault::CaseFaultTold;
-pub use lists::MarkList;
 pub use lists::StepLists;
 pub use steps::read_count;
 pub use steps::read_end;

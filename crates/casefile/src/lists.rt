@@ -7,7 +7,7 @@ mod methods;
 
 // Up to 1,024 marks, at the front.
 #[derive(Drop)]
-pub struct MarkList {
+pub(crate) struct MarkList {
     marks: [u16; 1024],
     count: usize,
     ghost room: { length marks ≡ 1024 },

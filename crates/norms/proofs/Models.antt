@@ -89,5 +89,5 @@ lawful rules =
       rounds-reach = rounds-reach P;
       one-depth = one-depth P;
       stable-is-smallest = stable-is-smallest P;
-      none-inside = none-inside P
+      none-inside = none-inside P;
     }

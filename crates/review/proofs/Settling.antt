@@ -41,7 +41,7 @@ module _ (rules : List (Rule ℕ)) (steps : List Step) (said proposed : List ℕ
       both-ways (among proposed (l .m)) (l .not-proposed) (f .all (l .m) (sym (one (l .L) (f .L) (l .m) (l .brought) (f .brought)) ∙ l .in-L))
 
   refusals : (t u : Told) → LeftOut rules steps said proposed t ⊎ Unfounded rules steps said proposed t
-    → LeftOut rules steps said proposed u ⊎ Unfounded rules steps said proposed u → Alike (Err t) (Err u)
+      → LeftOut rules steps said proposed u ⊎ Unfounded rules steps said proposed u → Alike (Err t) (Err u)
   refusals t u (inl p) (inl q) = inr (ap (λ x. x .number) (p .tells) ∙ sym (ap (λ x. x .number) (q .tells)), inl (ap (λ x. x .number) (p .tells)))
   refusals t u (inl p) (inr q) = absurd (not-both t u p q)
   refusals t u (inr p) (inl q) = absurd (not-both u t q p)
@@ -73,13 +73,14 @@ module _ (rules : List (Rule ℕ)) (steps : List Step) (said proposed : List ℕ
   exactly-after : (c : Option Told) → lists-check steps said proposed ≡ c → (a : Result Accepted Told) → JudgedAfter rules steps said proposed c a → Exactly rules steps said proposed a
   exactly-after None e (Ok a) j = ((λ _. (e, j .stable)), (λ _. refl))
   exactly-after None e (Err t) j = ((λ ok. absurd (both-ways false refl ok)), (λ s. absurd (never (s .1) t j)))
-  exactly-after (Some t) e a j =
-      ( (λ ok. absurd (refused-lists t a j ok)),
-        (λ s. absurd (let z : None ≡ Some t = sym (s .0) ∙ e in let y : _≡_ {A = ℕ} 0 1 = cc in omega arith)) )
+  exactly-after (Some t) e a j = (
+    (λ ok. absurd (refused-lists t a j ok)),
+    (λ s. absurd (let z : None ≡ Some t = sym (s .0) ∙ e in let y : _≡_ {A = ℕ} 0 1 = cc in omega arith)),
+  )
 
   pub settled : Settled rules steps said proposed
   settled =
       record {
         alike = after (lists-check steps said proposed);
-        exactly = exactly-after (lists-check steps said proposed) refl
+        exactly = exactly-after (lists-check steps said proposed) refl;
       }

@@ -11,7 +11,7 @@ returns-in-Break-passed g c =
       stands = search needs;
       law = settled (g .B·Book .rules (self .book)) (standing (self .steps)) (c .args .said .now) (c .args .proposed .now);
       book = search needs;
-      refused = search needs
+      refused = search needs;
     }
 
 pub returns-in-Some : need.returns-in-Some
@@ -22,5 +22,5 @@ returns-in-Some g c =
       stands = search needs;
       law = settled (g .B·Book .rules (self .book)) (standing (self .steps)) (c .args .said .now) (c .args .proposed .now);
       book = search needs;
-      refused = search needs
+      refused = search needs;
     }
