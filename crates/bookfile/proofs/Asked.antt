@@ -1,7 +1,7 @@
 -- What rows and names answer to the questions of a book. Assumes nothing.
-use mathlib.Core.Path.{_≡_, refl, sym, ap, _∙_, subst}
+use mathlib.Core.Path.{_≡_, refl, sym, ap, _∙_}
 use mathlib.Core.List.{List, map}
-use Prim.Native.Nat.{ℕ, _+_, _-_, _<_, _≤_, min}
+use Prim.Native.Nat.{ℕ, _+_, _<_, _≤_}
 use native.Mathlib.Omega.{arith}
 use lib.ListN.{length, getD, take, drop}
 use Rattle.std.specs.Finite.{nth}
@@ -9,18 +9,16 @@ use Rattle.std.specs.Iters.{counting}
 use Rattle.std.specs.Options.{Cases, mapped}
 use Rattle.std.specs.declared.option.Option.{Option}
 use Rattle.std.specs.declared.option.Option.the-variants.{None, Some}
-use Rattle.std.proofs.shelf.Lists.{length-take, length-drop}
 use Rattle.std.proofs.shelf.Counted.{length-map-counting, getD-map-counting}
 use Rattle.std.proofs.shelf.Maps.{nth-getD, nth-past}
 use Rattle.marks.specs.declared.mark.Mark.{Mark}
 use Rattle.norms.specs.Programs.{Rule}
-use Rattle.norms.specs.Rules.{body}
 use Rattle.books.specs.Asked.{head-of, counts-of, body-at, body-of, numbered}
-use Rattle.rows.specs.Rows.{head, required-count, barred-count, body-count, mark-at, marks, rule-of}
+use Rattle.rows.specs.Rows.{head, required-count, barred-count, body-count, mark-at, marks}
 use Rattle.rows.specs.Tables.{row-in, rule-in, rules-in}
 use Rattle.reading.specs.Reads.{part}
 use Rattle.bookfile.specs.Layout.{name-at, name-in, names-in}
-use Rattle.rows.proofs.Sound.{body-marks, length-marks}
+use Rattle.rows.proofs.Sound.{body-marks, length-required, length-barred}
 
 -- an element of a list made from a function of the index
 pub nth-counted : {X : Type 0} (f : ℕ → X) (n k : ℕ) → k < n → nth (map f (counting 0 n)) k ≡ Some (f k)
@@ -56,12 +54,6 @@ module _ (bs : List ℕ) (from count n : ℕ) where
   head-told row r m e f made low here =
       let is : m ≡ head (row-in bs from n) = f ∙ ap head e in
       made-mark r m made (omega arith) ∙ ap Some is ∙ sym (at-rule (mapped (λ (r : Rule ℕ). r .head)) here)
-
-  length-required : (row : List ℕ) → length (take (required-count row) (marks row)) ≡ required-count row
-  length-required row = length-take (required-count row) (marks row) ∙ omega (arith, length-marks row)
-
-  length-barred : (row : List ℕ) → length (drop (required-count row) (marks row)) ≡ barred-count row
-  length-barred row = length-drop (required-count row) (marks row) ∙ omega (arith, length-marks row)
 
   pub counts-told : (row : List ℕ) (x y : ℕ) → row ≡ row-in bs from n → x ≡ required-count row → y ≡ barred-count row → n < count → Some (x, y) ≡ counts-of (rules-in bs from count) n
   counts-told row x y e f g here =

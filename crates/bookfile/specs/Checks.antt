@@ -3,6 +3,7 @@
 --     unfit b                       the byte b may not stand in a name
 --     byte-check here at name k     refuses an unfit byte k of a name (7, at the name)
 --     apart-check here at bs from name k   refuses a name that is the k-th name (8, at the name)
+--     name-check-at here at len bs from n   the check of name n, whose length byte is at the offset `at` and says len
 --     name-check bs from n          refuses name n: bytes that are not there (1, at the file's length), a length
 --                                   that is not 1 to 32 or an unfit byte (7), a name that stood earlier (8, both
 --                                   at the name)

@@ -3,3 +3,4 @@ pub mod Checks
 pub mod Faults
 pub mod Made
 pub mod Views
+pub mod Written

@@ -1,6 +1,7 @@
 // The check of a book file.
 ghost use mathlib.Core.Path.{_≡_};
-ghost use mathlib.Core.Bool.{cond};
+ghost use mathlib.Core.Bool.{true, cond};
+ghost use mathlib.Core.Logic.{_↔_};
 ghost use Prim.Native.Nat.{_+_, _*_, _≤_};
 ghost use lib.ListN.{length};
 ghost use Rattle.std.specs.Results.{isOk};
@@ -13,6 +14,7 @@ ghost use Rattle.rows.specs.Tables.{row-at, row-in, rows-check};
 ghost use Rattle.bookfile.specs.Faults.{name-told, book-told};
 ghost use Rattle.bookfile.specs.Layout.{rows-from, rule-count, names-count-at, name-count, names-from, name-at};
 ghost use Rattle.bookfile.specs.Checks.{rules-check, name-check, names-check, named-check, body-check, uses-check, book-check};
+ghost use Rattle.bookfile.specs.Written.{BookFile};
 use crate::fault::BookFault;
 use crate::fault::BookFaultFromName;
 use crate::fault::BookFaultFromRead;
@@ -151,7 +153,8 @@ fn check_all_uses(bytes: &[u8], names: u8, rules: u16) -> Result<(), BookFault>
 
 // Whether the bytes are a book file.
 pub fn check_book(bytes: &[u8]) -> Result<(), BookFault>
-    ensures { λ r. ⌜ answered book-told r ≡ passes tt (book-check (now (bytes .entry))) ⌝ }
+    ensures answer { λ r. ⌜ answered book-told r ≡ passes tt (book-check (now (bytes .entry))) ⌝ }
+    ensures law { λ r. ⌜ ((isOk r ≡ true) ↔ BookFile (now (bytes .entry))) ⌝ }
 {
     let mut reader = Reader::new(bytes);
     let rules = check_rules(&mut reader)?;

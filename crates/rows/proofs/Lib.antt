@@ -1,3 +1,4 @@
 pub mod Refused
 pub mod Passed
 pub mod Sound
+pub mod Written

@@ -1,28 +1,22 @@
 -- The rule of a row that passes the check keeps the bounds of a rule. Assumes nothing.
-use mathlib.Core.Path.{_≡_, refl, sym, ap, _∙_, subst}
-use mathlib.Core.Bool.{Bool, true, false, _||_}
-use mathlib.Core.List.{List, [], _∷_, _++_, map}
+use mathlib.Core.Path.{_≡_, sym, ap, _∙_, subst}
+use mathlib.Core.Bool.{false}
+use mathlib.Core.List.{List}
 use Prim.Native.Nat.{ℕ, _+_, _-_, _*_, _<_, _≤_}
 use native.Mathlib.Omega.{arith}
-use lib.Dec.{ltb, eqb}
-use lib.ListN.{length, getD, take, drop}
-use Rattle.std.specs.Iters.{counting}
+use lib.ListN.{length, getD}
 use Rattle.std.specs.shelf.Lists.{All}
-use Rattle.std.specs.declared.option.Option.{Option}
-use Rattle.std.specs.declared.option.Option.the-variants.{None, Some}
-use Rattle.std.proofs.shelf.Lists.{take-append-drop}
+use Rattle.std.specs.declared.option.Option.the-variants.{None}
+use Rattle.std.proofs.shelf.Lists.{take-append-drop, length-take, length-drop}
 use Rattle.std.proofs.shelf.Counted.{length-map-counting, getD-map-counting}
 use Rattle.std.proofs.shelf.Elements.{all-from-getD}
 use Rattle.std.proofs.shelf.Tests.{ltb-false, eqb-false, or-parts}
 use Rattle.refusals.specs.declared.Item.{Item}
 use Rattle.refusals.specs.declared.Section.{Section}
-use Rattle.refusals.specs.declared.Told.{Told}
-use Rattle.refusals.specs.Telling.{refusal-in}
-use Rattle.refusals.specs.Checks.{refuse-if, _⨟_, first-below}
+use Rattle.refusals.specs.Checks.{first-below}
 use Rattle.marks.specs.Numbers.{attribute, carried, breached}
-use Rattle.norms.specs.Programs.{Rule}
 use Rattle.norms.specs.Rules.{SoundRule, SoundBook, body}
-use Rattle.rows.specs.Rows.{head, required-count, body-count, mark-at, marks, rule-of, mark-check, zero-check, row-check}
+use Rattle.rows.specs.Rows.{head, required-count, barred-count, body-count, mark-at, marks, rule-of, mark-check, zero-check, row-check}
 use Rattle.rows.specs.Tables.{row-at, row-in, in-section, row-check-in, rows-check, rule-in, rules-in}
 use Rattle.std.specs.Options.{isSome}
 use Rattle.rows.proofs.Passed.{none-from, before-passed, after-passed, test-failed, each-passed}
@@ -35,6 +29,12 @@ length-marks row = length-map-counting (mark-at row) 0 (body-count row)
 
 pub getD-marks : (row : List ℕ) (k : ℕ) → k < body-count row → getD (marks row) k 0 ≡ mark-at row k
 getD-marks row k h = getD-map-counting (mark-at row) 0 (body-count row) k k 0 h (omega arith)
+
+pub length-required : (row : List ℕ) → length (rule-of row .required) ≡ required-count row
+length-required row = length-take (required-count row) (marks row) ∙ omega (arith, length-marks row)
+
+pub length-barred : (row : List ℕ) → length (rule-of row .barred) ≡ barred-count row
+length-barred row = length-drop (required-count row) (marks row) ∙ omega (arith, length-marks row)
 
 -- what each part of the check says of a row that passes
 module _ (here : Item) (at : ℕ) (row : List ℕ) (passed : row-check here at row ≡ None) where

@@ -8,6 +8,7 @@
 --     marks row                 the body marks
 --     rule-of row               the rule that the row means
 --     mark-check here at row k  refuses a k-th body mark above 1,023 (4, at the mark)
+--     unused-at row k           the place in the row of the k-th unused byte
 --     zero-check here at row k  refuses a k-th unused byte that is not zero (6, at the byte)
 --     row-check here at row     refuses a row that stands at the offset `at`: a head above 1,023 (4) or of
 --                               attribute carried or breached (5, both at the row), more than 14 body marks

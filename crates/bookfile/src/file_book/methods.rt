@@ -1,12 +1,15 @@
 // The questions that a book answers, from the rows of a file.
 ghost use mathlib.Core.Path.{_≡_};
-ghost use Prim.Native.Nat.{_<_};
+ghost use mathlib.Core.List.{List};
+ghost use Prim.Native.Nat.{ℕ, _<_};
 ghost use Rattle.refusals.specs.declared.Section.the-variants.{Rules};
+ghost use Rattle.norms.specs.Programs.{Rule};
 ghost use Rattle.rows.specs.Tables.{row-in};
 ghost use Rattle.rows.proofs.Sound.{sound-table};
 ghost use Rattle.bookfile.specs.Layout.{rows-from, rule-count};
 ghost use Rattle.bookfile.specs.Checks.{book-check};
 ghost use Rattle.bookfile.specs.Made.{made-rules, count-where-passes};
+ghost use Rattle.bookfile.specs.Written.{FileOf};
 ghost use Rattle.bookfile.specs.Views.{rules-of};
 use crate::book_check::check_book;
 use crate::book_check::row_in;
@@ -30,7 +33,8 @@ fn checked_count(bytes: &[u8]) -> usize
 impl<'a> FileBook<'a> {
     // The book of the file, or one without rules where the check refuses it.
     pub fn new(bytes: &'a [u8]) -> FileBook<'a>
-        ensures { λ r. ⌜ rules-of r ≡ made-rules (now (bytes .entry)) ⌝ }
+        ensures rules { λ r. ⌜ rules-of r ≡ made-rules (now (bytes .entry)) ⌝ }
+        ensures meant { λ r. ⌜ ((rules : List (Rule ℕ)) (names : List (List ℕ)) → FileOf rules names (now (bytes .entry)) → rules-of r ≡ rules) ⌝ }
     {
         FileBook {
             bytes,

@@ -1,12 +1,15 @@
 // The name of an instance.
 ghost use mathlib.Core.Path.{_≡_};
-ghost use Prim.Native.Nat.{_^_, _<_, _≤_};
+ghost use mathlib.Core.List.{List};
+ghost use Prim.Native.Nat.{ℕ, _^_, _<_, _≤_};
 ghost use lib.ListN.{length};
 ghost use Rattle.std.specs.Finite.{nth};
 ghost use Rattle.std.specs.Options.{Cases, mapped};
+ghost use Rattle.norms.specs.Programs.{Rule};
 ghost use Rattle.bookfile.specs.Layout.{names-count-at, name-at, name-count};
 ghost use Rattle.bookfile.specs.Checks.{book-check};
 ghost use Rattle.bookfile.specs.Made.{made-names, count-where-passes};
+ghost use Rattle.bookfile.specs.Written.{FileOf};
 ghost use Rattle.bookfile.specs.Views.{name-list};
 use crate::book_check::check_book;
 use crate::name_check::name_at;
@@ -36,7 +39,8 @@ fn checked_count(bytes: &[u8]) -> u8
 impl<'a> Names<'a> {
     // The names of the file, or none where the check refuses it.
     pub fn new(bytes: &'a [u8]) -> Names<'a>
-        ensures { λ r. ⌜ name-list r ≡ made-names (now (bytes .entry)) ⌝ }
+        ensures names { λ r. ⌜ name-list r ≡ made-names (now (bytes .entry)) ⌝ }
+        ensures meant { λ r. ⌜ ((rules : List (Rule ℕ)) (names : List (List ℕ)) → FileOf rules names (now (bytes .entry)) → name-list r ≡ names) ⌝ }
     {
         Names {
             bytes,

@@ -100,12 +100,12 @@ impl<'a> Reader<'a> {
         ensures at { λ r. ⌜ now (self .exit) .at ≡ cond (isOk r) (now (self .entry) .at + 2) (now (self .entry) .at) ⌝ }
     {
         let mut next = *self;
-        let count = next.pair(item)?;
-        if count > most {
+        let number = next.pair(item)?;
+        if number > most {
             return Err(ReadFault::TooMany { item, at: self.at });
         }
         *self = next;
-        Ok(count)
+        Ok(number)
     }
 
     // Whether the file ends here.

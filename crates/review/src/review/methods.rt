@@ -30,13 +30,6 @@ impl<B: Book> Review<B> {
         }
     }
 
-    // The book that the review stands over.
-    pub fn book(&self) -> &B
-        ensures { λ r. ⌜ now r ≡ now (self .entry) .book ⌝ }
-    {
-        &self.book
-    }
-
     // How many steps stand.
     pub fn steps(&self) -> usize
         ensures value { λ r. ⌜ r ≡ length (standing (now (self .entry) .steps)) ⌝ }

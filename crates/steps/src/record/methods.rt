@@ -5,7 +5,6 @@ ghost use Prim.Native.Nat.{ℕ, _≤_, _<_};
 ghost use lib.ListN.{length};
 ghost use Rattle.std.specs.Results.{Cases};
 ghost use Rattle.marks.specs.Words.{members};
-ghost use Rattle.marks.specs.Sets.{nothing};
 ghost use Rattle.norms.specs.Findings.{finding, findings-in};
 ghost use Rattle.steps.specs.Listed.{listed};
 use crate::record::Record;
@@ -14,16 +13,6 @@ use marks::Mark;
 use marks::MarkSet;
 
 impl Record {
-    pub fn empty() -> Record
-        ensures said { λ r. ⌜ members (r .said) ≡ nothing ⌝ }
-        ensures marks { λ r. ⌜ members (r .marks) ≡ nothing ⌝ }
-    {
-        Record {
-            said: MarkSet::empty(),
-            marks: MarkSet::empty(),
-        }
-    }
-
     pub fn new(said: MarkSet, marks: MarkSet) -> Record
         ensures said { λ r. ⌜ r .said ≡ said ⌝ }
         ensures marks { λ r. ⌜ r .marks ≡ marks ⌝ }

@@ -35,7 +35,7 @@ impl Table {
     {
         Table {
             places: Places {
-                records: [Record::empty(); 64],
+                records: [Record::new(MarkSet::empty(), MarkSet::empty()); 64],
             },
             count: 0,
         }

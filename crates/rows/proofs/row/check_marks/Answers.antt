@@ -1,7 +1,5 @@
 use native.Mathlib.Omega.{arith}
-use Prim.Native.Nat.{_+_, _*_}
 use Rattle.std.proofs.shelf.Tests.{lt-ltb, le-ltb}
-use Rattle.refusals.specs.Telling.{refusal-in}
 use Rattle.refusals.proofs.First.{first-none, first-passed}
 use Rattle.rows.specs.Rows.{mark-check, mark-at, body-count}
 use Rattle.rows.proofs.Refused.{refused-at, refused-if, passed-if}

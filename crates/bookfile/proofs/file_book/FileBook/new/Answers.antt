@@ -6,6 +6,8 @@ use Rattle.refusals.specs.declared.Section.the-variants.{Rules}
 use Rattle.rows.specs.Tables.{rule-in, rows-check, rules-in}
 use Rattle.bookfile.specs.Layout.{rows-from, rule-count}
 use Rattle.bookfile.specs.Checks.{book-check}
+use Rattle.bookfile.specs.Made.{made-rules}
+use Rattle.bookfile.proofs.Law.{rules-made}
 use Rattle.bookfile.proofs.Passed.{made-few, made-checked, made-counted}
 use Rattle.bookfile.proofs.file_book.FileBook.new.Needs as need
 
@@ -19,4 +21,8 @@ ghost-result c = (
 )
 
 pub returns : need.returns
-returns c = ap (rules-in (c .args .bytes .now) rows-from) (c .checked-count .ensures) ∙ made-counted (rule-in (c .args .bytes .now) rows-from) (book-check (c .args .bytes .now)) (rule-count (c .args .bytes .now))
+returns c =
+    let is : rules-in (c .args .bytes .now) rows-from (c .checked-count .result) ≡ made-rules (c .args .bytes .now) =
+    ap (rules-in (c .args .bytes .now) rows-from) (c .checked-count .ensures)
+    ∙ made-counted (rule-in (c .args .bytes .now) rows-from) (book-check (c .args .bytes .now)) (rule-count (c .args .bytes .now)) in
+    record { rules = is; meant = λ rules names file. is ∙ rules-made (c .args .bytes .now) rules names file }

@@ -1,12 +1,12 @@
 use mathlib.Core.Path.{_≡_, sym, ap, _∙_, subst}
 use mathlib.Core.Bool.{false}
-use mathlib.Core.List.{List}
-use Prim.Native.Nat.{ℕ, _+_}
+use Prim.Native.Nat.{_+_}
 use Rattle.std.specs.Options.{isSome}
 use Rattle.refusals.specs.Checks.{first-below}
 use Rattle.bookfile.specs.Layout.{name-count, names-from, name-in, names-in}
 use Rattle.bookfile.specs.Checks.{name-check, book-check}
-use Rattle.bookfile.specs.Made.{count-where-passes}
+use Rattle.bookfile.specs.Made.{made-names, count-where-passes}
+use Rattle.bookfile.proofs.Law.{names-made}
 use Rattle.bookfile.proofs.Passed.{made-names-checked, made-counted}
 use Rattle.bookfile.proofs.name_list.Names.new.Needs as need
 
@@ -20,6 +20,8 @@ ghost-result c = (
 
 pub returns : need.returns
 returns c =
+    let is : names-in (c .args .bytes .now) (c .names-count-at .result + 1) (c .checked-count .result) ≡ made-names (c .args .bytes .now) =
     ap (names-in (c .args .bytes .now) (c .names-count-at .result + 1)) (c .checked-count .ensures)
     ∙ ap (λ at. names-in (c .args .bytes .now) (at + 1) (count-where-passes (book-check (c .args .bytes .now)) (name-count (c .args .bytes .now)))) (c .names-count-at .ensures .value)
-    ∙ made-counted (name-in (c .args .bytes .now) (names-from (c .args .bytes .now))) (book-check (c .args .bytes .now)) (name-count (c .args .bytes .now))
+    ∙ made-counted (name-in (c .args .bytes .now) (names-from (c .args .bytes .now))) (book-check (c .args .bytes .now)) (name-count (c .args .bytes .now)) in
+    record { names = is; meant = λ rules names file. is ∙ names-made (c .args .bytes .now) rules names file }

@@ -1,7 +1,6 @@
-use mathlib.Core.Path.{_≡_, refl, sym}
-use Prim.Native.Nat.{_+_, _<_, _≤_}
+use mathlib.Core.Path.{refl, sym}
+use Prim.Native.Nat.{_<_}
 use native.Mathlib.Omega.{arith}
-use lib.ListN.{length, getD}
 use Rattle.rows.proofs.Passed.{none-from}
 use Rattle.bookfile.proofs.Walk.{name-at-none, place-more}
 use Rattle.bookfile.proofs.Passed.{place-within}
