@@ -3,6 +3,7 @@
 use bookfile::FileBookRules;
 use bookfile::Names;
 use books::Book;
+use report::LineFault;
 use report::last_line;
 use report::report_line;
 use review::Review;
@@ -31,11 +32,21 @@ fn read_or_empty(rt: &LibcRuntime, path: &str) -> io::Result<Vec<u8>> {
     }
 }
 
-// Prints the line that stands at the front of the buffer.
-fn print_line(rt: &LibcRuntime, buffer: &[u8], length: usize) -> io::Result<()> {
-    match buffer.get(0..length) {
-        Some(line) => rt.stdout().write_all(line),
-        None => Ok(()),
+// Prints the line of finding k; false where there is none.
+fn print_finding<B: Book>(
+    rt: &LibcRuntime,
+    review: &Review<B>,
+    k: usize,
+    names: &Names<'_>,
+    buffer: &mut [u8],
+) -> io::Result<bool> {
+    match report_line(review, k, names, buffer) {
+        Ok(length) => {
+            rt.stdout().write_all(&buffer[0..length])?;
+            Ok(true)
+        }
+        Err(LineFault::List(_)) => Ok(false),
+        Err(LineFault::Short(_)) => Err(io::Error::other("a line is longer than the buffer")),
     }
 }
 
@@ -47,9 +58,8 @@ fn print_findings<B: Book>(
     buffer: &mut [u8],
 ) -> io::Result<()> {
     for k in 0..usize::MAX {
-        match report_line(review, k, names, buffer) {
-            Ok(length) => print_line(rt, buffer, length)?,
-            Err(_) => break,
+        if !print_finding(rt, review, k, names, buffer)? {
+            break;
         }
     }
     Ok(())
@@ -63,8 +73,8 @@ fn print_last<B: Book>(
     buffer: &mut [u8],
 ) -> io::Result<()> {
     match last_line(review, outcome, buffer) {
-        Ok(length) => print_line(rt, buffer, length),
-        Err(_) => Ok(()),
+        Ok(length) => rt.stdout().write_all(&buffer[0..length]),
+        Err(_) => Err(io::Error::other("the last line is longer than the buffer")),
     }
 }
 

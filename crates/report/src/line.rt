@@ -1,8 +1,10 @@
 // Lines of the report, each written from the front of a lent buffer. Refused, the buffer is as it was.
 ghost use mathlib.Core.Path.{_≡_};
+ghost use Prim.Native.Nat.{_≤_};
 ghost use lib.Dec.{eqb};
 ghost use lib.ListN.{length};
 ghost use Rattle.std.specs.Results.{errPart};
+ghost use Rattle.std.specs.Vec.{made};
 ghost use Rattle.refusals.specs.Telling.{answered};
 ghost use Rattle.bookfile.specs.Views.{name-list};
 ghost use Rattle.lines.specs.Faults.{short-told};
@@ -57,6 +59,7 @@ pub fn report_line<B: Book>(
     buffer: &mut [u8],
 ) -> Result<usize, LineFault>
     ensures answer { λ r. ⌜ answered line-told r ≡ line-answer (standing (now (review .entry) .steps)) (name-list (now (names .entry))) k (length (now (buffer .entry))) ⌝ }
+    ensures within { λ r. ⌜ made r (λ n. n ≤ length (now (buffer .entry))) ⌝ }
     ensures text { λ _. ⌜ now (buffer .exit) ≡ line-written (standing (now (review .entry) .steps)) (name-list (now (names .entry))) k (now (buffer .entry)) ⌝ }
 {
     let (step, number) = review.list(k)?;
@@ -73,6 +76,7 @@ pub fn last_line<B: Book, F: Fault>(
     buffer: &mut [u8],
 ) -> Result<usize, Short>
     ensures answer { λ r. ⌜ answered short-told r ≡ room-answer (last-text (standing (now (review .entry) .steps)) (errPart (answered (F·Fault .told) (now (outcome .entry))))) (length (now (buffer .entry))) ⌝ }
+    ensures within { λ r. ⌜ made r (λ n. n ≤ length (now (buffer .entry))) ⌝ }
     ensures text { λ r. ⌜ now (buffer .exit) ≡ if-room (answered short-told r) (written (last-text (standing (now (review .entry) .steps)) (errPart (answered (F·Fault .told) (now (outcome .entry))))) (now (buffer .entry))) (now (buffer .entry)) ⌝ }
 {
     match outcome {

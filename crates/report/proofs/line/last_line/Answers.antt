@@ -17,5 +17,6 @@ returns-in-Ok g c =
     ap steps-line (c .steps .ensures .value) ∙ ap (λ o. last-text steps (errPart (answered told o))) (sym (c .in-Ok .is)) in
     record {
       answer = answer-of (steps-line (c .steps .result)) _ (length old) (c .write-steps .result) same (c .write-steps .ensures .answer);
+      within = c .write-steps .ensures .within;
       text = buffer-of (steps-line (c .steps .result)) _ old (c .write-steps .last .buffer) (c .write-steps .result) same (c .write-steps .ensures .text);
     }
