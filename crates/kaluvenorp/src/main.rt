@@ -78,12 +78,17 @@ fn print_last<B: Book>(
     }
 }
 
-fn main(rt: LibcRuntime) -> io::Result<()> {
-    let book = read_or_empty(&rt, "book")?;
-    let case = read_or_empty(&rt, "case")?;
+// Judges the case, and prints the report.
+fn judge(rt: &LibcRuntime) -> io::Result<()> {
+    let book = read_or_empty(rt, "book")?;
+    let case = read_or_empty(rt, "case")?;
     let (review, outcome) = run_files(book.as_slice(), case.as_slice());
     let names = Names::new(book.as_slice());
     let mut buffer = [0; LINE];
-    print_findings(&rt, &review, &names, &mut buffer)?;
-    print_last(&rt, &review, &outcome, &mut buffer)
+    print_findings(rt, &review, &names, &mut buffer)?;
+    print_last(rt, &review, &outcome, &mut buffer)
+}
+
+fn main(rt: LibcRuntime) -> io::Result<()> {
+    rt.report(judge(&rt))
 }
