@@ -1,4 +1,3 @@
 pub mod Buffers
 pub mod Decimals
 pub mod Room
-pub mod Lengths
