@@ -1,7 +1,6 @@
 -- The laws of smallest closed sets and stable models, of every program over every kind of mark. Assumes nothing.
 use mathlib.Core.Path.{_≡_, refl, sym, subst, fun-ext}
 use mathlib.Core.Bool.{Bool, true, false}
-use mathlib.Core.List.{List}
 use mathlib.Core.Logic.{⊎-elim}
 use Prim.Native.Nat.{ℕ, _<_}
 use native.Mathlib.Omega.{arith}
@@ -9,11 +8,10 @@ use Rattle.std.proofs.shelf.Elements.{all-weaker}
 use Rattle.std.proofs.shelf.Tests.{both-ways, cases-bool, cases-eq, cases-order}
 use Rattle.marks.specs.Sets.{Set, _∈_, _⊆_}
 use Rattle.norms.specs.Programs.{Rule, Program, Stays, Smallest, Round, Rounds, none, more, Depth}
-use Rattle.norms.specs.Rules.{Norms}
-use Rattle.norms.specs.Laws.{One-smallest, Rounds-reach, One-depth, Stable-is-smallest, None-inside, Lawful}
+use Rattle.norms.specs.Laws.{One-smallest, Rounds-reach, One-depth, Stable-is-smallest, None-inside}
 use Rattle.norms.proofs.Rounds.{depth-smallest}
 
-same-bool : (a b : Bool) → (a ≡ true → b ≡ true) → (b ≡ true → a ≡ true) → a ≡ b
+pub same-bool : (a b : Bool) → (a ≡ true → b ≡ true) → (b ≡ true → a ≡ true) → a ≡ b
 same-bool true b to back = sym (to refl)
 same-bool false true to back = back refl
 same-bool false false to back = refl
@@ -79,15 +77,3 @@ module _ {A : Type 0} (P : Program A) where
   one-depth M G L K d e first second =
       let same : d ≡ e = same-depth M G first second in
       (same, rounds-one M G (subst (λ k. Rounds P M G k L) same (first .rounds)) (second .rounds))
-
--- the rules of every book
-pub lawful : (rules : List (Rule ℕ)) → Lawful rules
-lawful rules =
-    let P = Norms rules in
-    record {
-      one-smallest = one-smallest P;
-      rounds-reach = rounds-reach P;
-      one-depth = one-depth P;
-      stable-is-smallest = stable-is-smallest P;
-      none-inside = none-inside P;
-    }

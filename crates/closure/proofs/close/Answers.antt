@@ -2,7 +2,7 @@ use Prim.Native.Nat.{_≤_, _<_}
 use native.Mathlib.Omega.{arith}
 use Rattle.marks.specs.Words.{members}
 use Rattle.norms.specs.Programs.{none}
-use Rattle.norms.proofs.Models.{lawful}
+use Rattle.norms.proofs.Lawful.{lawful}
 use Rattle.closure.proofs.Counting.{many, many-le}
 use Rattle.closure.proofs.Closing.{count-rises, rounds-more, closes}
 use Rattle.closure.proofs.close.Given.{Over}
