@@ -19,8 +19,8 @@ use Rattle.norms.specs.Rules.{body}
 use Rattle.rows.specs.Rows.{head, body-count, mark-at, row-check}
 use Rattle.rows.specs.Tables.{row-at, row-in, rule-in, row-check-in}
 use Rattle.rows.specs.Written.{written-row}
-use Rattle.rows.proofs.Passed.{both-passed, all-passed}
-use Rattle.rows.proofs.Refused.{passed-if}
+use Rattle.refusals.proofs.Passed.{both-passed, all-passed}
+use Rattle.refusals.proofs.Refused.{passed-if}
 use Rattle.rows.proofs.Written.{head-back, count-back, mark-back, row-passes}
 use Rattle.bookfile.specs.Layout.{rows-from, rule-count, file-rules, name-count, names-from, name-at, name-in, file-names}
 use Rattle.bookfile.specs.Checks.{rule-item, name-item, unfit, byte-check, apart-check, name-check, rules-check, names-check, named-check, body-check, uses-check, book-check}

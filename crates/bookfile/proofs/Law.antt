@@ -11,12 +11,11 @@ use Rattle.std.specs.shelf.Text.{sameBytes}
 use Rattle.std.specs.declared.option.Option.the-variants.{None}
 use Rattle.std.specs.Results.{isOk}
 use Rattle.std.specs.declared.result.Result.{Result}
-use Rattle.std.specs.declared.result.Result.the-variants.{Ok, Err}
 use Rattle.std.proofs.shelf.Lists.{length-take, length-drop}
 use Rattle.std.proofs.shelf.Counted.{length-map-counting, getD-map-counting}
 use Rattle.std.proofs.shelf.Elements.{all-from-getD}
 use Rattle.std.proofs.shelf.Equals.{sameBytes-decides}
-use Rattle.std.proofs.shelf.Tests.{ltb-false, leb-false, eqb-false, or-parts, both-ways, false≢true}
+use Rattle.std.proofs.shelf.Tests.{ltb-false, leb-false, eqb-false, or-parts, both-ways}
 use Rattle.refusals.specs.declared.Section.the-variants.{Rules}
 use Rattle.refusals.specs.declared.Told.{Told}
 use Rattle.refusals.specs.Telling.{answered}
@@ -25,8 +24,8 @@ use Rattle.marks.specs.Numbers.{instance}
 use Rattle.norms.specs.Programs.{Rule}
 use Rattle.rows.specs.Rows.{body-count, marks}
 use Rattle.rows.specs.Tables.{row-in, rule-in}
-use Rattle.rows.proofs.Passed.{before-passed, after-passed, test-failed, each-passed}
-use Rattle.rows.proofs.Refused.{passed-by, refused-by}
+use Rattle.refusals.proofs.Passed.{before-passed, after-passed, test-failed, each-passed}
+use Rattle.refusals.proofs.Refused.{passes-exactly}
 use Rattle.rows.proofs.Sound.{body-marks, length-marks, getD-marks, sound-rows}
 use Rattle.bookfile.specs.Layout.{rows-from, rule-count, file-rules, name-count, names-from, name-at, name-in, file-names}
 use Rattle.bookfile.specs.Checks.{name-item, unfit, byte-check, apart-check, name-check, body-check, uses-check, book-check}
@@ -149,8 +148,4 @@ module _ (bs : List ℕ) (rules : List (Rule ℕ)) (names : List (List ℕ)) (fi
 
 -- a call that makes the check
 pub call-law : {E : Type 0} (told : E → Told) (r : Result (Unit {0}) E) (bs : List ℕ) → ((i : ℕ) → getD bs i 0 < 256) → answered told r ≡ passes tt (book-check bs) → (isOk r ≡ true) ↔ BookFile bs
-call-law told (Ok x) bs small answer = ((λ ok. book-law bs small .0 (passed-by tt x (book-check bs) answer)), (λ file. refl))
-call-law told (Err e) bs small answer = (
-  (λ ok. absurd (false≢true ok)),
-  (λ file. absurd (let none = book-law bs small .1 file in let some = refused-by tt (book-check bs) (told e) answer in let z : _≡_ {A = ℕ} 0 1 = cc in omega arith)),
-)
+call-law told r bs small answer = passes-exactly told r (book-check bs) (book-law bs small) answer

@@ -16,7 +16,7 @@ use Rattle.refusals.specs.declared.Section.the-variants.{Rules}
 use Rattle.refusals.specs.Checks.{first-below}
 use Rattle.refusals.proofs.First.{first-none}
 use Rattle.rows.specs.Tables.{row-check-in, rows-check}
-use Rattle.rows.proofs.Passed.{before-passed, after-passed, test-failed, each-passed, is-none}
+use Rattle.refusals.proofs.Passed.{before-passed, after-passed, test-failed, each-passed, is-none}
 use Rattle.bookfile.specs.Layout.{rows-from, rule-count, name-count, names-from, name-at}
 use Rattle.bookfile.specs.Checks.{name-check, rules-check, names-check, book-check}
 use Rattle.bookfile.specs.Made.{where-passes, count-where-passes}

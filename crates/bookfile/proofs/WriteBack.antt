@@ -1,21 +1,21 @@
 -- A file that passes the check is what is written of the rules and names that it means. Assumes nothing.
 use mathlib.Core.Path.{_≡_, sym, ap, _∙_}
 use mathlib.Core.List.{List, [], _∷_, _++_}
-use mathlib.Core.Logic.{inl, inr}
-use Prim.Native.Nat.{ℕ, zero, suc, _+_, _*_, _/_, _%_, _<_, _≤_}
+use Prim.Native.Nat.{ℕ, zero, suc, _+_, _<_, _≤_}
 use native.Mathlib.Omega.{arith}
 use lib.ListN.{length, getD, drop}
 use Rattle.std.specs.shelf.Lists.{joined}
 use Rattle.std.specs.declared.option.Option.the-variants.{None}
-use Rattle.std.proofs.shelf.Lists.{append-assoc, append-nil, length-take, length-drop, take-append-drop, drop-drop, drop-more, drop-all, getD-drop, getD-take, getD-past, joined-more}
+use Rattle.std.proofs.shelf.Lists.{append-assoc, append-nil, length-take, length-drop, drop-more, drop-all, joined-more}
 use Rattle.std.proofs.shelf.Counted.{length-map-counting, map-counting-more}
-use Rattle.std.proofs.shelf.Tests.{cases-lt, ltb-false}
+use Rattle.std.proofs.shelf.Tests.{ltb-false}
 use Rattle.refusals.specs.declared.Section.the-variants.{Rules}
 use Rattle.refusals.specs.Checks.{first-below}
-use Rattle.reading.specs.Reads.{pair, part}
+use Rattle.reading.specs.Reads.{byte-pair}
+use Rattle.reading.proofs.Pairs.{part-bytes, left-part, left-pair}
 use Rattle.rows.specs.Tables.{row-at, row-in, rule-in, rules-in, in-section, rows-check}
-use Rattle.rows.specs.Written.{byte-pair, written-row}
-use Rattle.rows.proofs.Passed.{before-passed, after-passed, test-failed}
+use Rattle.rows.specs.Written.{written-row}
+use Rattle.refusals.proofs.Passed.{before-passed, after-passed, test-failed}
 use Rattle.rows.proofs.Sound.{row-passed, row-whole}
 use Rattle.rows.proofs.Written.{row-back}
 use Rattle.bookfile.specs.Layout.{rows-from, rule-count, file-rules, names-count-at, name-count, names-from, name-at, name-in, names-in, file-names}
@@ -23,28 +23,6 @@ use Rattle.bookfile.specs.Checks.{name-check, book-check}
 use Rattle.bookfile.specs.Written.{written-name, written}
 use Rattle.bookfile.proofs.Walk.{name-at-none, name-at-more}
 use Rattle.bookfile.proofs.Passed.{rules-passed, names-passed, rows-passed, each-name-passed, name-within}
-
--- a part of bytes has bytes
-part-bytes : (bs : List ℕ) (at n : ℕ) → ((i : ℕ) → getD bs i 0 < 256) → (i : ℕ) → getD (part bs at n) i 0 < 256
-part-bytes bs at n small i =
-    elim (cases-lt i n) [
-      | inl below ↦ omega (arith, getD-take n (drop at bs) i 0 below, getD-drop at bs i 0, small (at + i))
-      | inr past ↦ omega (arith, getD-past (part bs at n) i 0 (omega (arith, length-take n (drop at bs))))
-    ]
-
--- the count of rules
-count-written : (bs : List ℕ) → ((i : ℕ) → getD bs i 0 < 256) → 2 ≤ length bs → bs ≡ byte-pair (pair bs 0) ++ drop 2 bs
-count-written [] small h = absurd (omega arith)
-count-written (a ∷ []) small h = absurd (omega arith)
-count-written (a ∷ b ∷ bs) small h =
-    let low = small 1 in
-    let x : a ≡ (a * 256 + b) / 256 = omega arith in
-    let y : b ≡ (a * 256 + b) % 256 = omega arith in
-    ap (λ z. z ∷ b ∷ bs) x ∙ ap (λ z. (a * 256 + b) / 256 ∷ z ∷ bs) y
-
--- what is left from an offset on begins with the n bytes there
-left-part : (bs : List ℕ) (at n : ℕ) → drop at bs ≡ part bs at n ++ drop (at + n) bs
-left-part bs at n = sym (take-append-drop n (drop at bs)) ∙ ap (λ xs. part bs at n ++ xs) (drop-drop n at bs)
 
 module _ (bs : List ℕ) (small : (i : ℕ) → getD bs i 0 < 256) where
   -- the rows that pass
@@ -104,7 +82,7 @@ module _ (bs : List ℕ) (small : (i : ℕ) → getD bs i 0 < 256) where
 
     pub file-written : bs ≡ written (file-rules bs) (file-names bs)
     file-written =
-        rows-written (rule-count bs) (rows-passed bs passed) (byte-pair (rule-count bs)) (count-written bs small two-there) (rule-count bs) (omega arith)
+        rows-written (rule-count bs) (rows-passed bs passed) (byte-pair (rule-count bs)) (left-pair bs 0 small two-there) (rule-count bs) (omega arith)
         ∙ ap (λ xs. (byte-pair (rule-count bs) ++ joined written-row (file-rules bs)) ++ xs) tail
         ∙ ap (λ n. (byte-pair n ++ joined written-row (file-rules bs)) ++ (length (file-names bs) ∷ joined written-name (file-names bs))) (sym (length-map-counting (rule-in bs rows-from) 0 (rule-count bs)))
         ∙ append-assoc (byte-pair (length (file-rules bs))) (joined written-row (file-rules bs)) (length (file-names bs) ∷ joined written-name (file-names bs))

@@ -17,7 +17,8 @@ use Rattle.std.specs.shelf.Lists.{All, joined}
 use Rattle.marks.specs.Numbers.{instance}
 use Rattle.norms.specs.Programs.{Rule}
 use Rattle.norms.specs.Rules.{SoundRule, body}
-use Rattle.rows.specs.Written.{byte-pair, written-row}
+use Rattle.reading.specs.Reads.{byte-pair}
+use Rattle.rows.specs.Written.{written-row}
 
 abbrev pub written-name : List ℕ → List ℕ
 written-name name = length name ∷ name

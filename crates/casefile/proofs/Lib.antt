@@ -1,2 +1,5 @@
 pub mod Marks
 pub mod More
+pub mod ReadBack
+pub mod WriteBack
+pub mod Law

@@ -1,11 +1,16 @@
 -- A case file, one step more. Assumes nothing.
-use mathlib.Core.Path.{_≡_, refl, ap, _∙_}
+use mathlib.Core.Path.{_≡_, refl, sym, ap, _∙_}
 use mathlib.Core.List.{List, [], _∷_}
-use Prim.Native.Nat.{ℕ, _+_}
+use Prim.Native.Nat.{ℕ, _+_, _-_, _<_}
 use native.Mathlib.Numerals.{add-one}
+use native.Mathlib.Omega.{arith}
+use Rattle.std.specs.declared.option.Option.{Option}
 use Rattle.std.specs.declared.option.Option.the-variants.{None, Some}
+use Rattle.std.specs.declared.result.Result.{Result}
+use Rattle.std.specs.declared.result.Result.the-variants.{Ok, Err}
 use Rattle.refusals.specs.declared.Told.{Told}
-use Rattle.refusals.specs.Checks.{_⨟_}
+use Rattle.refusals.specs.Checks.{_⨟_, passes}
+use Rattle.refusals.proofs.Refused.{passed-by, refused-by}
 use Rattle.reading.specs.Reads.{ends-at}
 use Rattle.casefile.specs.Cases.{said-at, proposed-at, after-step, step-check, case-step, if-passed, steps-from, end-from}
 
@@ -40,3 +45,17 @@ module _ (bs : List ℕ) where
 
     pub end-refused : {t : Told} → step-check (case-step k) bs i ≡ Some t → end-from bs m k i ≡ Some t
     end-refused e = next-end ∙ rw e
+
+-- a reader of the same bytes stands at step k of n, which it reads
+module _ (bs rs : List ℕ) (same : rs ≡ bs) (n k i : ℕ) (below : k < n) (end : Option Told) (ends : end-from bs (n - k) k i ≡ end) where
+  pub goes-on : (j : ℕ) → _≡_ {A = Result (Unit {0}) Told} (Ok tt) (passes tt (step-check (case-step k) rs i)) → j ≡ after-step rs i → end-from bs (n - (k + 1)) (k + 1) j ≡ end
+  goes-on j answer next =
+      let passed = ap (λ xs. step-check (case-step k) xs i) (sym same) ∙ passed-by tt tt (step-check (case-step k) rs i) answer in
+      ap (end-from bs (n - (k + 1)) (k + 1)) (next ∙ ap (λ xs. after-step xs i) same)
+      ∙ sym (end-more bs (n - k) (n - (k + 1)) k i (omega arith) passed)
+      ∙ ends
+
+  pub stops : (t : Told) → _≡_ {A = Result (Unit {0}) Told} (Err t) (passes tt (step-check (case-step k) rs i)) → _≡_ {A = Result (Unit {0}) Told} (Err t) (passes tt end)
+  stops t answer =
+      let refused = ap (λ xs. step-check (case-step k) xs i) (sym same) ∙ refused-by tt (step-check (case-step k) rs i) t answer in
+      ap (passes tt) (sym (end-refused bs (n - k) (n - (k + 1)) k i (omega arith) refused) ∙ ends)

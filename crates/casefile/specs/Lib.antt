@@ -1,3 +1,4 @@
 pub mod Cases
+pub mod Written
 pub mod Lists
 pub mod Faults

@@ -1,11 +1,12 @@
--- What is read of the bytes of a file, and when that is refused. Assumes nothing.
+-- What is read of the bytes of a file, how a number is written, and when reading is refused. Assumes nothing.
 --     pair bs i              the two-byte number at i, the high byte first
+--     byte-pair n            a number as two bytes, the high byte first
 --     part bs i n            the n bytes at i
 --     there here bs i n      refuses where the n bytes at i are not all there (1, at the file's length)
 --     at-most here i limit n refuses a count n, which stands at i, above its limit (2, at the count)
 --     ends-at bs i           refuses bytes that are left over from i on (9, at the first of them)
-use mathlib.Core.List.{List}
-use Prim.Native.Nat.{ℕ, _+_, _*_}
+use mathlib.Core.List.{List, [], _∷_}
+use Prim.Native.Nat.{ℕ, _+_, _*_, _/_, _%_}
 use lib.Dec.{ltb}
 use lib.ListN.{length, getD, take, drop}
 use Rattle.std.specs.declared.option.Option.{Option}
@@ -17,6 +18,9 @@ use Rattle.refusals.specs.Checks.{refuse-if}
 
 abbrev pub pair : List ℕ → ℕ → ℕ
 pair bs i = getD bs i 0 * 256 + getD bs (i + 1) 0
+
+abbrev pub byte-pair : ℕ → List ℕ
+byte-pair n = n / 256 ∷ n % 256 ∷ []
 
 abbrev pub part : List ℕ → ℕ → ℕ → List ℕ
 part bs i n = take n (drop i bs)

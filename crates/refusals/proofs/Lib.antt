@@ -1,2 +1,4 @@
 pub mod First
+pub mod Passed
+pub mod Refused
 pub mod Passing

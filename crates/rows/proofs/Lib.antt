@@ -1,4 +1,2 @@
-pub mod Refused
-pub mod Passed
 pub mod Sound
 pub mod Written

@@ -19,7 +19,7 @@ use Rattle.norms.specs.Rules.{SoundRule, SoundBook, body}
 use Rattle.rows.specs.Rows.{head, required-count, barred-count, body-count, mark-at, marks, rule-of, mark-check, zero-check, row-check}
 use Rattle.rows.specs.Tables.{row-at, row-in, in-section, row-check-in, rows-check, rule-in, rules-in}
 use Rattle.std.specs.Options.{isSome}
-use Rattle.rows.proofs.Passed.{none-from, before-passed, after-passed, test-failed, each-passed}
+use Rattle.refusals.proofs.Passed.{none-from, before-passed, after-passed, test-failed, each-passed}
 
 pub body-marks : (row : List ℕ) → body (rule-of row) ≡ marks row
 body-marks row = take-append-drop (required-count row) (marks row)

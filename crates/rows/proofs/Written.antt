@@ -1,6 +1,6 @@
 -- A rule and its row: what is written is read back, and what was read is written back. Assumes nothing.
 use mathlib.Core.Path.{_≡_, refl, sym, ap, _∙_}
-use mathlib.Core.List.{List, [], _∷_, _++_}
+use mathlib.Core.List.{List, _++_}
 use mathlib.Core.Logic.{_⊎_, inl, inr, ⊎-elim}
 use Prim.Native.Nat.{ℕ, zero, suc, _+_, _-_, _*_, _/_, _%_, _<_, _≤_}
 use native.Mathlib.Omega.{arith}
@@ -14,30 +14,13 @@ use Rattle.refusals.specs.declared.Item.{Item}
 use Rattle.marks.specs.Numbers.{attribute}
 use Rattle.norms.specs.Programs.{Rule}
 use Rattle.norms.specs.Rules.{SoundRule, body}
+use Rattle.reading.specs.Reads.{byte-pair}
+use Rattle.reading.proofs.Pairs.{length-pairs, high-at, low-at}
 use Rattle.rows.specs.Rows.{head, body-count, mark-at, marks, rule-of, unused-at, mark-check, zero-check, row-check}
-use Rattle.rows.specs.Written.{byte-pair, zeros, written-row}
-use Rattle.rows.proofs.Passed.{both-passed, all-passed, each-passed, test-failed}
-use Rattle.rows.proofs.Refused.{passed-if}
+use Rattle.rows.specs.Written.{zeros, written-row}
+use Rattle.refusals.proofs.Passed.{both-passed, all-passed, each-passed, test-failed}
+use Rattle.refusals.proofs.Refused.{passed-if}
 use Rattle.rows.proofs.Sound.{body-marks, length-marks, getD-marks, length-required, length-barred, few-marks, zeros-passed}
-
--- numbers as two bytes each, one after another
-pub length-pairs : (ms : List ℕ) → length (joined byte-pair ms) ≡ 2 * length ms
-length-pairs [] = refl
-length-pairs (m ∷ ms) = omega (arith, length-pairs ms)
-
-pub high-at : (ms zs : List ℕ) (k : ℕ) → k < length ms → getD (joined byte-pair ms ++ zs) (2 * k) 0 ≡ getD ms k 0 / 256
-high-at [] zs k h = absurd (omega arith)
-high-at (m ∷ ms) zs zero h = refl
-high-at (m ∷ ms) zs (suc k) h =
-    let next : 2 * suc k ≡ suc (suc (2 * k)) = omega arith in
-    ap (λ i. getD (joined byte-pair (m ∷ ms) ++ zs) i 0) next ∙ high-at ms zs k (omega arith)
-
-pub low-at : (ms zs : List ℕ) (k : ℕ) → k < length ms → getD (joined byte-pair ms ++ zs) (suc (2 * k)) 0 ≡ getD ms k 0 % 256
-low-at [] zs k h = absurd (omega arith)
-low-at (m ∷ ms) zs zero h = refl
-low-at (m ∷ ms) zs (suc k) h =
-    let next : suc (2 * suc k) ≡ suc (suc (suc (2 * k))) = omega arith in
-    ap (λ i. getD (joined byte-pair (m ∷ ms) ++ zs) i 0) next ∙ low-at ms zs k (omega arith)
 
 pub length-zeros : (n : ℕ) → length (zeros n) ≡ n
 length-zeros n = length-replicate {A = ℕ} n 0

@@ -1,16 +1,13 @@
 -- How a rule is written as a row. Assumes nothing.
---     byte-pair n     a number as two bytes, the high byte first
 --     zeros n         n bytes zero
 --     written-row r   the row of the rule r
-use mathlib.Core.List.{List, [], _∷_, _++_}
-use Prim.Native.Nat.{ℕ, _-_, _*_, _/_, _%_}
+use mathlib.Core.List.{List, _∷_, _++_}
+use Prim.Native.Nat.{ℕ, _-_, _*_}
 use lib.ListN.{length, replicate}
 use Rattle.std.specs.shelf.Lists.{joined}
 use Rattle.norms.specs.Programs.{Rule}
 use Rattle.norms.specs.Rules.{body}
-
-abbrev pub byte-pair : ℕ → List ℕ
-byte-pair n = n / 256 ∷ n % 256 ∷ []
+use Rattle.reading.specs.Reads.{byte-pair}
 
 abbrev pub zeros : ℕ → List ℕ
 zeros n = replicate n 0

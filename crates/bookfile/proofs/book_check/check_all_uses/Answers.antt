@@ -1,7 +1,7 @@
 use mathlib.Core.Path.{refl}
 use Rattle.std.proofs.shelf.Results.{err-from-errBy}
 use Rattle.refusals.proofs.First.{first-none}
-use Rattle.rows.proofs.Refused.{call-passed, call-refused}
+use Rattle.refusals.proofs.Refused.{call-passed, call-refused}
 use Rattle.bookfile.specs.Checks.{uses-check}
 use Rattle.bookfile.proofs.book_check.check_all_uses.Needs as need
 

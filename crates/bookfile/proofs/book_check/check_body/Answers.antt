@@ -6,7 +6,7 @@ use Rattle.std.proofs.shelf.Results.{err-from-errBy}
 use Rattle.refusals.proofs.First.{first-none}
 use Rattle.rows.specs.Rows.{body-count, mark-at}
 use Rattle.rows.specs.Tables.{row-at, row-in}
-use Rattle.rows.proofs.Refused.{call-passed, call-refused}
+use Rattle.refusals.proofs.Refused.{call-passed, call-refused}
 use Rattle.bookfile.specs.Layout.{rows-from}
 use Rattle.bookfile.specs.Checks.{named-check, body-check}
 use Rattle.bookfile.proofs.book_check.check_body.Needs as need

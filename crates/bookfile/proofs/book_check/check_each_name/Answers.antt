@@ -2,7 +2,7 @@ use mathlib.Core.Path.{refl, sym, ap, _∙_}
 use Rattle.std.proofs.shelf.Results.{err-from-errBy}
 use Rattle.refusals.specs.Checks.{passes, first-below}
 use Rattle.refusals.proofs.First.{first-none}
-use Rattle.rows.proofs.Refused.{call-passed, call-refused}
+use Rattle.refusals.proofs.Refused.{call-passed, call-refused}
 use Rattle.bookfile.specs.Checks.{name-check}
 use Rattle.bookfile.proofs.Walk.{name-at-none}
 use Rattle.bookfile.proofs.book_check.check_each_name.Needs as need

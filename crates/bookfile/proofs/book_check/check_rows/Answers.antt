@@ -8,7 +8,7 @@ use Rattle.refusals.specs.declared.Section.the-variants.{Rules}
 use Rattle.refusals.proofs.First.{first-none}
 use Rattle.rows.specs.Rows.{row-check-at}
 use Rattle.rows.specs.Tables.{row-at, row-check-in}
-use Rattle.rows.proofs.Refused.{call-passed, call-refused}
+use Rattle.refusals.proofs.Refused.{call-passed, call-refused}
 use Rattle.bookfile.specs.Layout.{rows-from}
 use Rattle.bookfile.specs.Checks.{rule-item}
 use Rattle.bookfile.proofs.book_check.check_rows.Needs as need

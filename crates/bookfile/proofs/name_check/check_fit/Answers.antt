@@ -1,7 +1,7 @@
 use mathlib.Core.Path.{sym}
 use lib.ListN.{length}
 use Rattle.refusals.proofs.First.{first-none, first-passed}
-use Rattle.rows.proofs.Refused.{refused-at, refused-if, passed-if}
+use Rattle.refusals.proofs.Refused.{refused-at, refused-if, passed-if}
 use Rattle.bookfile.specs.Checks.{byte-check}
 use Rattle.bookfile.proofs.name_check.check_fit.Needs as need
 

@@ -2,7 +2,7 @@ use mathlib.Core.Path.{sym, _∙_}
 use native.Mathlib.Omega.{arith}
 use Rattle.std.proofs.shelf.Equals.{matches-decides}
 use Rattle.refusals.proofs.First.{first-none, first-passed}
-use Rattle.rows.proofs.Refused.{refused-at, refused-if, passed-if}
+use Rattle.refusals.proofs.Refused.{refused-at, refused-if, passed-if}
 use Rattle.bookfile.specs.Checks.{apart-check}
 use Rattle.bookfile.proofs.Walk.{name-at-none, place-ends, place-more, same-name}
 use Rattle.bookfile.proofs.name_check.check_new.Needs as need

@@ -2,7 +2,7 @@ use native.Mathlib.Omega.{arith}
 use Rattle.std.proofs.shelf.Tests.{lt-ltb, le-ltb}
 use Rattle.refusals.proofs.First.{first-none, first-passed}
 use Rattle.rows.specs.Rows.{mark-check, mark-at, body-count}
-use Rattle.rows.proofs.Refused.{refused-at, refused-if, passed-if}
+use Rattle.refusals.proofs.Refused.{refused-at, refused-if, passed-if}
 use Rattle.rows.proofs.row.check_marks.Needs as need
 
 pub loop-k-holds : need.loop-k-holds

@@ -7,7 +7,7 @@ use Rattle.std.proofs.shelf.Tests.{lt-ltb, le-ltb}
 use Rattle.refusals.specs.Telling.{refusal-in}
 use Rattle.refusals.proofs.First.{first-none, first-passed}
 use Rattle.rows.specs.Rows.{zero-check, unused-at, body-count}
-use Rattle.rows.proofs.Refused.{refused-at, refused-if, passed-if}
+use Rattle.refusals.proofs.Refused.{refused-at, refused-if, passed-if}
 use Rattle.rows.proofs.row.check_unused.Needs as need
 
 pub loop-k-holds : need.loop-k-holds

@@ -2,7 +2,7 @@ use mathlib.Core.Path.{sym, ap, _∙_}
 use Prim.Native.Nat.{_≤_}
 use native.Mathlib.Omega.{arith}
 use Rattle.std.specs.Finite.{nth}
-use Rattle.rows.proofs.Passed.{none-from}
+use Rattle.refusals.proofs.Passed.{none-from}
 use Rattle.bookfile.specs.Layout.{names-in, name-in}
 use Rattle.bookfile.proofs.Asked.{name-told, nth-counted-past}
 use Rattle.bookfile.proofs.Passed.{place-within, place-short}

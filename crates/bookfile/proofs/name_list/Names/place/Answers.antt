@@ -1,7 +1,7 @@
 use mathlib.Core.Path.{refl, sym}
 use Prim.Native.Nat.{_<_}
 use native.Mathlib.Omega.{arith}
-use Rattle.rows.proofs.Passed.{none-from}
+use Rattle.refusals.proofs.Passed.{none-from}
 use Rattle.bookfile.proofs.Walk.{name-at-none, place-more}
 use Rattle.bookfile.proofs.Passed.{place-within}
 use Rattle.bookfile.proofs.name_list.Names.place.Needs as need

@@ -4,7 +4,7 @@ use native.Mathlib.Omega.{arith}
 use Rattle.refusals.specs.declared.Section.the-variants.{Rules}
 use Rattle.rows.specs.Rows.{body-count}
 use Rattle.rows.specs.Tables.{row-in}
-use Rattle.rows.proofs.Passed.{none-from}
+use Rattle.refusals.proofs.Passed.{none-from}
 use Rattle.rows.proofs.Sound.{mark-low-in}
 use Rattle.bookfile.specs.Layout.{rows-from}
 use Rattle.bookfile.proofs.Asked.{rule-past, body-past, body-told}

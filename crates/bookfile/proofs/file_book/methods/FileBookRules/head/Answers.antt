@@ -1,5 +1,5 @@
 use Rattle.refusals.specs.declared.Section.the-variants.{Rules}
-use Rattle.rows.proofs.Passed.{none-from}
+use Rattle.refusals.proofs.Passed.{none-from}
 use Rattle.rows.proofs.Sound.{head-low-in}
 use Rattle.bookfile.specs.Layout.{rows-from}
 use Rattle.bookfile.proofs.Asked.{head-past, head-told}
