@@ -5,72 +5,42 @@ use Prim.Native.Nat.{ℕ, _+_, _<_, _≤_}
 use native.Mathlib.Omega.{arith}
 use lib.ListN.{length, getD, take, drop}
 use Rattle.std.specs.Finite.{nth}
-use Rattle.std.specs.Iters.{counting}
-use Rattle.std.specs.Options.{Cases, mapped}
+use Rattle.std.specs.Options.{Cases}
 use Rattle.std.specs.declared.option.Option.{Option}
 use Rattle.std.specs.declared.option.Option.the-variants.{None, Some}
-use Rattle.std.proofs.shelf.Counted.{length-map-counting, getD-map-counting}
-use Rattle.std.proofs.shelf.Maps.{nth-getD, nth-past}
+use Rattle.std.proofs.shelf.Lists.{length-take, length-drop}
 use Rattle.marks.specs.declared.mark.Mark.{Mark}
 use Rattle.norms.specs.Programs.{Rule}
-use Rattle.books.specs.Asked.{head-of, counts-of, body-at, body-of, numbered}
-use Rattle.rows.specs.Rows.{head, required-count, barred-count, body-count, mark-at, marks}
+use Rattle.books.specs.Asked.{head-of, counts-of, body-of, numbered}
+use Rattle.books.proofs.Counted.{nth-counted, nth-counted-past, made-mark, head-is, counts-are, body-is}
+use Rattle.rows.specs.Rows.{head, required-count, barred-count, body-count, mark-at, marks, rule-of}
 use Rattle.rows.specs.Tables.{row-in, rule-in, rules-in}
 use Rattle.reading.specs.Reads.{part}
 use Rattle.bookfile.specs.Layout.{name-at, name-in, names-in}
 use Rattle.rows.proofs.Sound.{body-marks, length-required, length-barred}
 
--- an element of a list made from a function of the index
-pub nth-counted : {X : Type 0} (f : ℕ → X) (n k : ℕ) → k < n → nth (map f (counting 0 n)) k ≡ Some (f k)
-nth-counted f n k h =
-    nth-getD (map f (counting 0 n)) k (f 0) (omega (arith, length-map-counting f 0 n))
-    ∙ ap Some (getD-map-counting f 0 n k k (f 0) h (omega arith))
-
-pub nth-counted-past : {X : Type 0} (f : ℕ → X) (n k : ℕ) → n ≤ k → nth (map f (counting 0 n)) k ≡ None
-nth-counted-past f n k h = nth-past (map f (counting 0 n)) k (omega (arith, length-map-counting f 0 n))
-
--- a mark that was made from a number
-pub made-mark : (r : Option Mark) (m : ℕ) → Cases r (1024 ≤ m) (λ x. x .number ≡ m) → m ≤ 1023 → numbered r ≡ Some m
-made-mark None m high low = absurd (omega arith)
-made-mark (Some x) m e low = ap Some e
-
 module _ (bs : List ℕ) (from count n : ℕ) where
-  past-end : {X : Type 0} (f : Option (Rule ℕ) → Option X) → f None ≡ None → count ≤ n → None ≡ f (nth (rules-in bs from count) n)
-  past-end f none past = sym (ap f (nth-counted-past (rule-in bs from) count n past) ∙ none)
-
-  pub head-past : count ≤ n → None ≡ head-of (rules-in bs from count) n
-  head-past = past-end (mapped (λ (r : Rule ℕ). r .head)) refl
-
-  pub counts-past : count ≤ n → None ≡ counts-of (rules-in bs from count) n
-  counts-past = past-end (mapped (λ (r : Rule ℕ). (length (r .required), length (r .barred)))) refl
-
-  pub rule-past : (k : ℕ) → count ≤ n → None ≡ body-of (rules-in bs from count) n k
-  rule-past k = past-end (λ o. body-at o k) refl
-
-  at-rule : {X : Type 0} (f : Option (Rule ℕ) → Option X) → n < count → f (nth (rules-in bs from count) n) ≡ f (Some (rule-in bs from n))
-  at-rule f here = ap f (nth-counted (rule-in bs from) count n here)
-
   pub head-told : (row : List ℕ) (r : Option Mark) (m : ℕ) → row ≡ row-in bs from n → m ≡ head row → Cases r (1024 ≤ m) (λ x. x .number ≡ m) → head (row-in bs from n) ≤ 1023 → n < count → numbered r ≡ head-of (rules-in bs from count) n
   head-told row r m e f made low here =
       let is : m ≡ head (row-in bs from n) = f ∙ ap head e in
-      made-mark r m made (omega arith) ∙ ap Some is ∙ sym (at-rule (mapped (λ (r : Rule ℕ). r .head)) here)
+      made-mark r m made (omega arith) ∙ ap Some is ∙ sym (head-is (rule-in bs from) count n here)
 
   pub counts-told : (row : List ℕ) (x y : ℕ) → row ≡ row-in bs from n → x ≡ required-count row → y ≡ barred-count row → n < count → Some (x, y) ≡ counts-of (rules-in bs from count) n
   counts-told row x y e f g here =
       let xs : x ≡ length (take (required-count (row-in bs from n)) (marks (row-in bs from n))) = f ∙ ap required-count e ∙ sym (length-required (row-in bs from n)) in
       let ys : y ≡ length (drop (required-count (row-in bs from n)) (marks (row-in bs from n))) = g ∙ ap barred-count e ∙ sym (length-barred (row-in bs from n)) in
-      ap (λ z. Some (z, y)) xs ∙ ap (λ z. Some (length (take (required-count (row-in bs from n)) (marks (row-in bs from n))), z)) ys ∙ sym (at-rule (mapped (λ (r : Rule ℕ). (length (r .required), length (r .barred)))) here)
+      ap (λ z. Some (z, y)) xs ∙ ap (λ z. Some (length (take (required-count (row-in bs from n)) (marks (row-in bs from n))), z)) ys ∙ sym (counts-are (rule-in bs from) count n here)
 
-  body-is : (k : ℕ) → n < count → body-of (rules-in bs from count) n k ≡ nth (marks (row-in bs from n)) k
-  body-is k here = at-rule (λ o. body-at o k) here ∙ ap (λ ms. nth ms k) (body-marks (row-in bs from n))
+  body-in : (k : ℕ) → n < count → body-of (rules-in bs from count) n k ≡ nth (marks (row-in bs from n)) k
+  body-in k here = body-is (rule-in bs from) count n k here ∙ ap (λ ms. nth ms k) (body-marks (row-in bs from n))
 
   pub body-told : (row : List ℕ) (k : ℕ) (r : Option Mark) (m : ℕ) → row ≡ row-in bs from n → m ≡ mark-at row k → Cases r (1024 ≤ m) (λ x. x .number ≡ m) → mark-at (row-in bs from n) k ≤ 1023 → n < count → k < body-count (row-in bs from n) → numbered r ≡ body-of (rules-in bs from count) n k
   body-told row k r m e f made low here below =
       let is : m ≡ mark-at (row-in bs from n) k = f ∙ ap (λ x. mark-at x k) e in
-      made-mark r m made (omega arith) ∙ ap Some is ∙ sym (body-is k here ∙ nth-counted (mark-at (row-in bs from n)) _ k below)
+      made-mark r m made (omega arith) ∙ ap Some is ∙ sym (body-in k here ∙ nth-counted (mark-at (row-in bs from n)) _ k below)
 
   pub body-past : (k : ℕ) → n < count → body-count (row-in bs from n) ≤ k → None ≡ body-of (rules-in bs from count) n k
-  body-past k here past = sym (body-is k here ∙ nth-counted-past (mark-at (row-in bs from n)) _ k past)
+  body-past k here past = sym (body-in k here ∙ nth-counted-past (mark-at (row-in bs from n)) _ k past)
 
 -- a name that was read where name n stands
 pub name-told : (bs : List ℕ) (from count n place : ℕ) (name : List ℕ) → place ≡ name-at bs from n → name ≡ part bs (place + 1) (getD bs place 0) → n < count → Some name ≡ nth (names-in bs from count) n

@@ -19,7 +19,7 @@ use Rattle.std.proofs.shelf.Tests.{ltb-false, leb-false, eqb-false, or-parts, b
 use Rattle.refusals.specs.declared.Section.the-variants.{Rules}
 use Rattle.refusals.specs.declared.Told.{Told}
 use Rattle.refusals.specs.Telling.{answered}
-use Rattle.refusals.specs.Checks.{first-below, passes}
+use Rattle.refusals.specs.Checks.{first-below, passes, where-passes}
 use Rattle.marks.specs.Numbers.{instance}
 use Rattle.norms.specs.Programs.{Rule}
 use Rattle.rows.specs.Rows.{body-count, marks}
@@ -30,7 +30,7 @@ use Rattle.rows.proofs.Sound.{body-marks, length-marks, getD-marks, sound-rows}
 use Rattle.bookfile.specs.Layout.{rows-from, rule-count, file-rules, name-count, names-from, name-at, name-in, file-names}
 use Rattle.bookfile.specs.Checks.{name-item, unfit, byte-check, apart-check, name-check, body-check, uses-check, book-check}
 use Rattle.bookfile.specs.Written.{Fit, FitName, Named, WellFormed, FileOf, BookFile}
-use Rattle.bookfile.specs.Made.{where-passes, made-rules, made-names}
+use Rattle.bookfile.specs.Made.{made-rules, made-names}
 use Rattle.bookfile.proofs.Passed.{names-passed, few-rules, rows-passed, each-name-passed, name-within, name-sized}
 use Rattle.bookfile.proofs.Accepted.{accepted, rules-meant, names-meant}
 use Rattle.bookfile.proofs.WriteBack.{file-written}

@@ -13,23 +13,13 @@ use Rattle.std.specs.declared.option.Option.the-variants.{None, Some}
 use Rattle.std.proofs.shelf.Tests.{ltb-false, or-parts}
 use Rattle.refusals.specs.declared.Told.{Told}
 use Rattle.refusals.specs.declared.Section.the-variants.{Rules}
-use Rattle.refusals.specs.Checks.{first-below}
+use Rattle.refusals.specs.Checks.{first-below, count-where-passes}
 use Rattle.refusals.proofs.First.{first-none}
+use Rattle.refusals.proofs.Passing.{both-ways}
 use Rattle.rows.specs.Tables.{row-check-in, rows-check}
 use Rattle.refusals.proofs.Passed.{before-passed, after-passed, test-failed, each-passed, is-none}
 use Rattle.bookfile.specs.Layout.{rows-from, rule-count, name-count, names-from, name-at}
 use Rattle.bookfile.specs.Checks.{name-check, rules-check, names-check, book-check}
-use Rattle.bookfile.specs.Made.{where-passes, count-where-passes}
-
--- what holds of 0, and of n where the check passes
-pub either-way : (P : ℕ → Type 0) (c : Option Told) (n : ℕ) → P 0 → (c ≡ None → P n) → P (count-where-passes c n)
-either-way P None n none some = some refl
-either-way P (Some t) n none some = none
-
--- a list made from a function of the index
-pub made-counted : {X : Type 0} (f : ℕ → X) (c : Option Told) (n : ℕ) → map f (counting 0 (count-where-passes c n)) ≡ where-passes c (map f (counting 0 n))
-made-counted f None n = refl
-made-counted f (Some t) n = refl
 
 module _ (bs : List ℕ) (passed : book-check bs ≡ None) where
   pub rules-passed : rules-check bs ≡ None
@@ -51,16 +41,16 @@ module _ (bs : List ℕ) (passed : book-check bs ≡ None) where
 
 -- what a `FileBook` holds
 pub made-few : (bs : List ℕ) → count-where-passes (book-check bs) (rule-count bs) ≤ 512
-made-few bs = either-way (λ n. n ≤ 512) (book-check bs) (rule-count bs) (omega arith) (few-rules bs)
+made-few bs = both-ways (λ n. n ≤ 512) (book-check bs) (rule-count bs) (omega arith) (few-rules bs)
 
 pub made-checked : (bs : List ℕ) → isSome (rows-check Rules bs rows-from (count-where-passes (book-check bs) (rule-count bs))) ≡ false
 made-checked bs =
-    is-none _ (either-way (λ n. rows-check Rules bs rows-from n ≡ None) (book-check bs) (rule-count bs) (first-none (row-check-in Rules bs rows-from)) (rows-passed bs))
+    is-none _ (both-ways (λ n. rows-check Rules bs rows-from n ≡ None) (book-check bs) (rule-count bs) (first-none (row-check-in Rules bs rows-from)) (rows-passed bs))
 
 -- what a `Names` holds
 pub made-names-checked : (bs : List ℕ) → isSome (first-below (count-where-passes (book-check bs) (name-count bs)) (name-check bs (names-from bs))) ≡ false
 made-names-checked bs =
-    is-none _ (either-way (λ n. first-below n (name-check bs (names-from bs)) ≡ None) (book-check bs) (name-count bs) (first-none (name-check bs (names-from bs))) (each-name-passed bs))
+    is-none _ (both-ways (λ n. first-below n (name-check bs (names-from bs)) ≡ None) (book-check bs) (name-count bs) (first-none (name-check bs (names-from bs))) (each-name-passed bs))
 
 -- names that pass
 module _ (bs : List ℕ) (from n : ℕ) (passed : first-below n (name-check bs from) ≡ None) (k : ℕ) (below : k < n) where

@@ -7,6 +7,7 @@ ghost use Rattle.std.specs.Options.{mapped};
 ghost use Rattle.norms.specs.Programs.{Rule};
 ghost use Rattle.norms.specs.Rules.{SoundBook};
 ghost use Rattle.books.specs.Asked.{head-of, body-of, counts-of, numbered};
+ghost use denote.Ref.{now};
 use marks::Mark;
 
 pub trait Book {
@@ -31,4 +32,27 @@ pub trait Book {
     // The k-th body mark of rule n, required ones first; none past the end.
     fn body(&self, n: usize, k: usize) -> Option<Mark>
         ensures { λ r. ⌜ numbered r ≡ body-of (rules (now (self .entry))) n k ⌝ };
+}
+
+// A reference to a book is a book, so that whatever stands over a book can also borrow it.
+pub impl<B: Book> Book for &B as RefBook {
+    ghost rules = { λ b. B·Book .rules (now b) };
+
+    ghost sound = { λ b. B·Book .sound (now b) };
+
+    fn len(&self) -> usize {
+        (**self).len()
+    }
+
+    fn head(&self, n: usize) -> Option<Mark> {
+        (**self).head(n)
+    }
+
+    fn counts(&self, n: usize) -> Option<(u8, u8)> {
+        (**self).counts(n)
+    }
+
+    fn body(&self, n: usize, k: usize) -> Option<Mark> {
+        (**self).body(n, k)
+    }
 }

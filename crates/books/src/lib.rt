@@ -2,3 +2,4 @@
 mod book;
 
 pub use book::Book;
+pub use book::RefBook;

@@ -9,10 +9,10 @@ use Rattle.std.specs.declared.option.Option.the-variants.{None, Some}
 use Rattle.std.specs.declared.result.Result.{Result}
 use Rattle.std.specs.declared.result.Result.the-variants.{Ok, Err}
 use Rattle.refusals.specs.declared.Told.{Told}
-use Rattle.refusals.specs.Checks.{_⨟_, passes}
+use Rattle.refusals.specs.Checks.{_⨟_, passes, where-passes}
 use Rattle.refusals.proofs.Refused.{passed-by, refused-by}
 use Rattle.reading.specs.Reads.{ends-at}
-use Rattle.casefile.specs.Cases.{said-at, proposed-at, after-step, step-check, case-step, if-passed, steps-from, end-from}
+use Rattle.casefile.specs.Cases.{said-at, proposed-at, after-step, step-check, case-step, steps-from, end-from}
 
 module _ (bs : List ℕ) where
   -- no step more
@@ -26,7 +26,7 @@ module _ (bs : List ℕ) where
 
   -- step k, the first of m steps that are still to come, and the n after it
   module _ (m n k i : ℕ) (more : m ≡ n + 1) where
-    next-steps : steps-from bs m k i ≡ if-passed (step-check (case-step k) bs i) ((said-at bs i, proposed-at bs i) ∷ steps-from bs n (k + 1) (after-step bs i))
+    next-steps : steps-from bs m k i ≡ where-passes (step-check (case-step k) bs i) ((said-at bs i, proposed-at bs i) ∷ steps-from bs n (k + 1) (after-step bs i))
     unfolding steps-from
     next-steps = ap (λ x. steps-from bs x k i) (more ∙ add-one n)
 

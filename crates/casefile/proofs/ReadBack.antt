@@ -14,7 +14,8 @@ use Rattle.refusals.proofs.Passed.{both-passed}
 use Rattle.refusals.proofs.Refused.{passed-if}
 use Rattle.reading.specs.Reads.{pair, byte-pair}
 use Rattle.reading.proofs.Pairs.{length-pairs}
-use Rattle.casefile.specs.Cases.{marks-in, list-at, after-list, list-check, said-at, proposed-at, after-step, step-check, case-step, count-check, if-passed, steps-from, end-from, case-steps, case-end}
+use Rattle.refusals.specs.Checks.{where-passes}
+use Rattle.casefile.specs.Cases.{marks-in, list-at, after-list, list-check, said-at, proposed-at, after-step, step-check, case-step, count-check, steps-from, end-from, case-steps, case-end}
 use Rattle.casefile.specs.Written.{written-list, written-step, written-case, FitList, FitStep, WellFormed}
 use Rattle.casefile.proofs.Marks.{marks-back}
 
@@ -91,7 +92,7 @@ module _ (bs : List ℕ) where
   unfolding steps-from
   steps-back [] fit k i left = refl
   steps-back (s ∷ steps) fit k i left =
-      ap (λ c. if-passed c ((said-at bs i, proposed-at bs i) ∷ steps-from bs (length steps) (k + 1) (after-step bs i))) (step-accepted bs i s (joined written-step steps) left k (fit .0))
+      ap (λ c. where-passes c ((said-at bs i, proposed-at bs i) ∷ steps-from bs (length steps) (k + 1) (after-step bs i))) (step-accepted bs i s (joined written-step steps) left k (fit .0))
       ∙ ap₂ _∷_ (step-back bs i s (joined written-step steps) left) (steps-back steps (fit .1) (k + 1) (after-step bs i) (after-left bs i s (joined written-step steps) left))
 
 -- the file of the steps
@@ -107,5 +108,5 @@ module _ (steps : List (List ℕ × List ℕ)) (good : WellFormed steps) where
 
   pub steps-meant : case-steps (written-case steps) ≡ steps
   steps-meant =
-      ap (λ c. if-passed c (steps-from (written-case steps) (length steps) 0 1)) number-accepted
+      ap (λ c. where-passes c (steps-from (written-case steps) (length steps) 0 1)) number-accepted
       ∙ steps-back (written-case steps) steps (good .fit) 0 1 refl

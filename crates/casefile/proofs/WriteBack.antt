@@ -14,7 +14,8 @@ use Rattle.refusals.specs.declared.Item.{Item}
 use Rattle.refusals.proofs.Passed.{before-passed, after-passed, test-failed}
 use Rattle.reading.specs.Reads.{pair, byte-pair, part}
 use Rattle.reading.proofs.Pairs.{part-bytes, left-part, left-pair}
-use Rattle.casefile.specs.Cases.{list-at, after-list, list-check, said-at, proposed-at, after-step, step-check, case-step, count-check, if-passed, steps-from, end-from, case-steps, case-end}
+use Rattle.refusals.specs.Checks.{where-passes}
+use Rattle.casefile.specs.Cases.{list-at, after-list, list-check, said-at, proposed-at, after-step, step-check, case-step, count-check, steps-from, end-from, case-steps, case-end}
 use Rattle.casefile.specs.Written.{written-list, written-step, FitList, FitStep, FileOf}
 use Rattle.casefile.proofs.Marks.{bytes-back}
 
@@ -75,7 +76,7 @@ module _ (bs : List ℕ) (small : (i : ℕ) → getD bs i 0 < 256) where
   steps-read (suc n) k i passed =
       let first : step-check (case-step k) bs i ≡ None = before-passed _ _ passed in
       let rest = steps-read n (k + 1) (after-step bs i) (after-passed (step-check (case-step k) bs i) _ passed) in
-      subst (λ c. StepsAt bs (suc n) i (if-passed c ((said-at bs i, proposed-at bs i) ∷ steps-from bs n (k + 1) (after-step bs i)))) (sym first)
+      subst (λ c. StepsAt bs (suc n) i (where-passes c ((said-at bs i, proposed-at bs i) ∷ steps-from bs n (k + 1) (after-step bs i)))) (sym first)
       record {
         count = ap suc (rest .count);
         fit = (step-fit (case-step k) i first, rest .fit);
@@ -95,7 +96,7 @@ module _ (bs : List ℕ) (small : (i : ℕ) → getD bs i 0 < 256) where
 
     read : StepsAt bs (getD bs 0 0) 1 (case-steps bs)
     read =
-        subst (λ c. StepsAt bs (getD bs 0 0) 1 (if-passed c (steps-from bs (getD bs 0 0) 0 1))) (sym number-passed)
+        subst (λ c. StepsAt bs (getD bs 0 0) 1 (where-passes c (steps-from bs (getD bs 0 0) 0 1))) (sym number-passed)
         (steps-read (getD bs 0 0) 0 1 (after-passed (count-check bs 0) _ passed))
 
     pub file-read : FileOf (case-steps bs) bs

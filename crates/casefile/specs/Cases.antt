@@ -10,7 +10,6 @@
 --     step-check here bs i    refuses a step of which a list is refused
 --     case-step k             step k of the case, as an item
 --     count-check bs i        refuses the number of steps, which stands at i
---     if-passed c xs          xs where the check c passes, else nothing
 --     steps-from bs n k i     the lists of the n steps at i, the first of them step k, up to the first that is refused
 --     end-from bs n k i       how a file ends that has n more steps at i: what is told of the first step that is
 --                             refused, or else of bytes that are left over, or nothing
@@ -25,7 +24,7 @@ use Rattle.std.specs.declared.option.Option.the-variants.{None, Some}
 use Rattle.refusals.specs.declared.Told.{Told}
 use Rattle.refusals.specs.declared.Item.{Item}
 use Rattle.refusals.specs.declared.Section.the-variants.{Case}
-use Rattle.refusals.specs.Checks.{_⨟_}
+use Rattle.refusals.specs.Checks.{_⨟_, where-passes}
 use Rattle.reading.specs.Reads.{pair, part, there, at-most, ends-at}
 
 abbrev pub marks-in : List ℕ → List ℕ
@@ -58,21 +57,17 @@ case-step k = record { section = Case; item = k }
 abbrev pub count-check : List ℕ → ℕ → Option Told
 count-check bs i = there (case-step 0) bs i 1 ⨟ at-most (case-step 0) i 64 (getD bs i 0)
 
-abbrev pub if-passed : {A : Type 0} → Option Told → List A → List A
-if-passed None xs = xs
-if-passed (Some t) xs = []
-
 unfoldable pub steps-from : List ℕ → ℕ → ℕ → ℕ → List (List ℕ × List ℕ)
 steps-from bs zero k i = []
 steps-from bs (suc n) k i =
-    if-passed (step-check (case-step k) bs i) ((said-at bs i, proposed-at bs i) ∷ steps-from bs n (k + 1) (after-step bs i))
+    where-passes (step-check (case-step k) bs i) ((said-at bs i, proposed-at bs i) ∷ steps-from bs n (k + 1) (after-step bs i))
 
 unfoldable pub end-from : List ℕ → ℕ → ℕ → ℕ → Option Told
 end-from bs zero k i = ends-at bs i
 end-from bs (suc n) k i = step-check (case-step k) bs i ⨟ end-from bs n (k + 1) (after-step bs i)
 
 abbrev pub case-steps : List ℕ → List (List ℕ × List ℕ)
-case-steps bs = if-passed (count-check bs 0) (steps-from bs (getD bs 0 0) 0 1)
+case-steps bs = where-passes (count-check bs 0) (steps-from bs (getD bs 0 0) 0 1)
 
 abbrev pub case-end : List ℕ → Option Told
 case-end bs = count-check bs 0 ⨟ end-from bs (getD bs 0 0) 0 1

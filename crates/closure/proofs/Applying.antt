@@ -14,6 +14,7 @@ use Rattle.marks.specs.Sets.{Set, _∈_}
 use Rattle.norms.specs.Programs.{Rule, Stays, Met}
 use Rattle.norms.proofs.Places.{all-nth, all-from-nth}
 use Rattle.books.specs.Asked.{body-of, body-at, counts-of}
+use Rattle.books.proofs.Counted.{rule-counted}
 use Rattle.closure.specs.Rounds.{Alike, Place, Applies}
 
 module _ (rules : List (Rule ℕ)) (n : ℕ) (r : Rule ℕ) (at : Place rules n r) where
@@ -46,17 +47,10 @@ module _ (rules : List (Rule ℕ)) (n : ℕ) (r : Rule ℕ) (at : Place rules n 
       m
       (sym (nth-right (r .required) (r .barred) (k - length (r .required))) ∙ ap (nth (r .required ++ r .barred)) past ∙ sym (in-body k) ∙ e)
 
--- the rule whose counts were told
-counted : (o : Option (Rule ℕ)) (q b : ℕ)
-    → mapped {U = ℕ × ℕ} (λ (r : Rule ℕ). (length (r .required), length (r .barred))) o ≡ Some (q, b)
-    → (r : Rule ℕ) × (o ≡ Some r) × (length (r .required) ≡ q) × (length (r .barred) ≡ b)
-counted None q b e = absurd (none-some (q, b) e)
-counted (Some r) q b e = (r, refl, ap (λ p. p .0) (same-some _ _ e), ap (λ p. p .1) (same-some _ _ e))
-
 module _ (rules : List (Rule ℕ)) (M S : Set ℕ) (n q b : ℕ) (told : counts-of rules n ≡ Some (q, b)) where
   pub applies-from-alike : Alike rules n 0 q S true → Alike rules n q (q + b) M false → Applies rules M S n
   applies-from-alike met stays =
-      let found = counted (nth rules n) q b told in
+      let found = rule-counted rules n q b told in
       let r = found .0 in (
         r,
         found .1,

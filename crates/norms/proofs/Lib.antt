@@ -6,3 +6,4 @@ pub mod Traces
 pub mod Levels
 pub mod Handing
 pub mod Lawful
+pub mod Equal

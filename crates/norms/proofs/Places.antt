@@ -1,7 +1,7 @@
 -- What stands at the places of lists. Assumes nothing.
 --     In xs x        x stands at some place of xs
 --     Rising R xs    R holds of each element of xs and each that stands after it
-use mathlib.Core.Path.{_≡_, refl, ap, subst, _∙_}
+use mathlib.Core.Path.{_≡_, refl, sym, ap, subst, _∙_}
 use mathlib.Core.Bool.{Bool, true}
 use mathlib.Core.List.{List, [], _∷_, _++_, map}
 use mathlib.Core.Logic.{⊎-elim}
@@ -11,8 +11,9 @@ use lib.ListN.{length}
 use Rattle.std.specs.Finite.{nth}
 use Rattle.std.specs.Options.{mapped}
 use Rattle.std.specs.declared.option.Option.the-variants.{Some}
-use Rattle.std.specs.shelf.Lists.{All, kept-by}
+use Rattle.std.specs.shelf.Lists.{All, Has, kept-by}
 use Rattle.std.proofs.iter.runs.Lists.{none-some, same-some, nth-within, nth-left, nth-right, nth-map}
+use Rattle.std.proofs.shelf.Maps.{nth-getD}
 use Rattle.std.proofs.shelf.Elements.{all-kept-by, all-append, all-map, all-weaker}
 use Rattle.std.proofs.shelf.Tests.{cases-bool, cond-true, cond-false, cond-both}
 
@@ -31,6 +32,12 @@ module _ {A : Type 0} (P : A → Type 0) where
       (each 0 y (omega arith) refl, all-from-nth xs (λ k x l e. each (suc k) x (omega arith) e))
 
 module _ {A : Type 0} where
+  pub in-has : (xs : List A) (x : A) → In xs x → Has xs x
+  in-has xs x (k, at) = let inside = nth-within xs k x at in (k, inside, λ d. same-some _ _ (sym (nth-getD xs k d inside) ∙ at))
+
+  pub has-in : (xs : List A) (x : A) → Has xs x → In xs x
+  has-in xs x (k, inside, at) = (k, nth-getD xs k x inside ∙ ap Some (at x))
+
   pub in-left : (xs ys : List A) (x : A) → In xs x → In (xs ++ ys) x
   in-left xs ys x (k, at) = (k, nth-left xs ys k (nth-within xs k x at) ∙ at)
 

@@ -5,3 +5,4 @@ pub mod Findings
 pub mod Traces
 pub mod Levels
 pub mod Laws
+pub mod Equal

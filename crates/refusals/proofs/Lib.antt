@@ -1,4 +1,5 @@
 pub mod First
+pub mod Passing
 pub mod Passed
 pub mod Refused
-pub mod Passing
+pub mod Rising

@@ -1,24 +1,25 @@
 -- A list that is checked from the front while its marks are gathered. Assumes nothing.
 use mathlib.Core.Path.{_≡_, refl, sym, ap, _∙_, fun-ext}
-use mathlib.Core.Bool.{Bool, true, false, cond, not, _&&_, _||_}
+use mathlib.Core.Bool.{Bool, true, false, cond, not, _||_}
 use mathlib.Core.List.{List, [], _∷_, _++_}
 use Prim.Native.Nat.{ℕ, zero, suc, _+_, _-_, _<_, _≤_}
 use native.Mathlib.Omega.{arith}
-use lib.Dec.{eqb, leb, ltb}
+use lib.Dec.{eqb}
 use lib.ListN.{length, getD, take}
 use Rattle.std.specs.declared.option.Option.{Option}
 use Rattle.std.specs.declared.option.Option.the-variants.{None, Some}
 use Rattle.std.specs.declared.result.Result.{Result}
 use Rattle.std.specs.declared.result.Result.the-variants.{Ok, Err}
 use Rattle.std.proofs.shelf.Lists.{take-more, take-all}
-use Rattle.std.proofs.shelf.Tests.{and-left, and-right, and-from, le-ltb, lt-ltb, lt-leb, le-leb}
+use Rattle.std.proofs.shelf.Tests.{le-ltb, lt-ltb}
 use Rattle.refusals.specs.declared.Told.{Told}
 use Rattle.refusals.specs.Telling.{refusal}
 use Rattle.refusals.specs.Checks.{_⨟_, refuse-if, first-below, passes}
+use Rattle.refusals.specs.Rising.{unrising}
 use Rattle.refusals.proofs.First.{first-none, first-passed, first-found}
 use Rattle.marks.specs.Sets.{Set, nothing, among}
 use Rattle.marks.specs.Words.{with-mark}
-use Rattle.review.specs.Lists.{high, unrising, unsayable, said-mark, proposed-mark}
+use Rattle.review.specs.Lists.{high, unsayable, said-mark, proposed-mark}
 
 -- the marks before place i passed the check c, S has just these, and b is the last of them
 abbrev pub Gathered : (ℕ → Option Told) → List ℕ → ℕ → Set ℕ → ℕ → Type 0
@@ -59,15 +60,6 @@ module _ (xs : List ℕ) (i : ℕ) where
 
   pub is-low : getD xs i 0 < 1024 → high xs i ≡ false
   is-low h = le-ltb 1023 (getD xs i 0) (omega arith)
-
-  pub is-unrising : (b : ℕ) → 0 < i → (0 < i → b ≡ getD xs (i - 1) 0) → getD xs i 0 ≤ b → unrising xs i ≡ true
-  is-unrising b h e l = and-from (ltb 0 i) (leb (getD xs i 0) (getD xs (i - 1) 0)) (lt-ltb 0 i h) (le-leb (getD xs i 0) (getD xs (i - 1) 0) (omega (arith, e h)))
-
-  pub is-first : i ≤ 0 → unrising xs i ≡ false
-  is-first h = and-left (ltb 0 i) (leb (getD xs i 0) (getD xs (i - 1) 0)) (le-ltb 0 i h)
-
-  pub is-rising : (b : ℕ) → 0 < i → (0 < i → b ≡ getD xs (i - 1) 0) → b < getD xs i 0 → unrising xs i ≡ false
-  is-rising b h e l = and-right (ltb 0 i) (leb (getD xs i 0) (getD xs (i - 1) 0)) (lt-leb (getD xs i 0) (getD xs (i - 1) 0) (omega (arith, e h)))
 
   pub said-high : high xs i ≡ true → said-mark xs i ≡ Some (refusal 22 i)
   said-high e = ap (λ b. refuse-if b (refusal 22 i) ⨟ refuse-if (unrising xs i) (refusal 23 i) ⨟ refuse-if (unsayable xs i) (refusal 24 i)) e

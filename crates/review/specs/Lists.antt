@@ -1,26 +1,23 @@
 -- The checks of the two lists of a proposal, from the front and at each mark in this order. Assumes nothing.
 --     high xs i          the mark at i is above 1,023
---     unrising xs i      it is not above the one before
 --     says m             m is of attribute triggered, created or ended, so that a step may say it
 --     unsayable xs i     the mark at i is of another attribute
 --     said-check said    22 above 1,023, 23 not above the one before, 24 of another attribute, each at its position
 --     proposed-check xs  25 above 1,023, 26 not above the one before, each at its position
-use mathlib.Core.Bool.{Bool, not, _&&_, _||_}
+use mathlib.Core.Bool.{Bool, not, _||_}
 use mathlib.Core.List.{List}
-use Prim.Native.Nat.{ℕ, _-_}
-use lib.Dec.{eqb, leb, ltb}
+use Prim.Native.Nat.{ℕ}
+use lib.Dec.{eqb, ltb}
 use lib.ListN.{length, getD}
 use Rattle.std.specs.declared.option.Option.{Option}
 use Rattle.refusals.specs.declared.Told.{Told}
 use Rattle.refusals.specs.Telling.{refusal}
 use Rattle.refusals.specs.Checks.{refuse-if, _⨟_, first-below}
+use Rattle.refusals.specs.Rising.{unrising}
 use Rattle.marks.specs.Numbers.{attribute, triggered, created, ended}
 
 abbrev pub high : List ℕ → ℕ → Bool
 high xs i = ltb 1023 (getD xs i 0)
-
-abbrev pub unrising : List ℕ → ℕ → Bool
-unrising xs i = ltb 0 i && leb (getD xs i 0) (getD xs (i - 1) 0)
 
 abbrev pub says : ℕ → Bool
 says m = eqb (attribute m) triggered || eqb (attribute m) created || eqb (attribute m) ended

@@ -10,10 +10,10 @@ use Rattle.std.specs.declared.option.Option.the-variants.{None, Some}
 use Rattle.std.specs.declared.result.Result.{Result}
 use Rattle.std.specs.declared.result.Result.the-variants.{Ok, Err}
 use Rattle.refusals.specs.declared.Told.{Told}
-use Rattle.refusals.specs.Checks.{_⨟_, passes}
+use Rattle.refusals.specs.Checks.{_⨟_, passes, where-passes}
 use Rattle.refusals.proofs.Passing.{passed, stopped}
 use Rattle.reading.specs.Reads.{ends-at}
-use Rattle.casefile.specs.Cases.{steps-from, end-from, step-check, case-step, count-check, case-steps, case-end, said-at, proposed-at, after-step, if-passed}
+use Rattle.casefile.specs.Cases.{steps-from, end-from, step-check, case-step, count-check, case-steps, case-end, said-at, proposed-at, after-step}
 use Rattle.norms.specs.Programs.{Rule}
 use Rattle.norms.specs.Steps.{Step}
 use Rattle.review.specs.declared.review.Accepted.{Accepted}
@@ -34,7 +34,7 @@ module _ (rules : List (Rule ℕ)) (bs : List ℕ) where
   pub rest-cut : (steps : List Step) (n k i : ℕ) (t : Told) → step-check (case-step k) bs i ≡ Some t → Rest steps (suc n) k i (Some t) steps
   unfolding Rest Hears steps-from end-from
   rest-cut steps n k i t e =
-      subst (λ c. Hears rules steps (if-passed c ((said-at bs i, proposed-at bs i) ∷ steps-from bs n (k + 1) (after-step bs i))) (c ⨟ end-from bs n (k + 1) (after-step bs i)) (Some t) steps)
+      subst (λ c. Hears rules steps (where-passes c ((said-at bs i, proposed-at bs i) ∷ steps-from bs n (k + 1) (after-step bs i))) (c ⨟ end-from bs n (k + 1) (after-step bs i)) (Some t) steps)
       (sym e) (refl, refl)
 
   -- the next step is read
@@ -44,7 +44,7 @@ module _ (rules : List (Rule ℕ)) (bs : List ℕ) where
         → Rest steps (suc n) k i out final
     unfolding Rest steps-from end-from
     read out final h =
-        subst (λ c. Hears rules steps (if-passed c ((said-at bs i, proposed-at bs i) ∷ steps-from bs n (k + 1) (after-step bs i))) (c ⨟ end-from bs n (k + 1) (after-step bs i)) out final)
+        subst (λ c. Hears rules steps (where-passes c ((said-at bs i, proposed-at bs i) ∷ steps-from bs n (k + 1) (after-step bs i))) (c ⨟ end-from bs n (k + 1) (after-step bs i)) out final)
         (sym e) h
 
     -- and passes
@@ -86,7 +86,7 @@ module _ (rules : List (Rule ℕ)) (bs rs : List ℕ) (at : ℕ) (steps : List S
   unfolding Hears
   count-stops out t e o =
       let c : count-check bs 0 ≡ Some t = sym (ap (λ x. count-check x at) same ∙ ap (count-check bs) front) ∙ stopped t (getD rs at 0) (count-check rs at) e in
-      subst (λ k. Hears rules steps (if-passed k (steps-from bs (getD bs 0 0) 0 1)) (k ⨟ end-from bs (getD bs 0 0) 0 1) out steps) (sym c) (o, refl)
+      subst (λ k. Hears rules steps (where-passes k (steps-from bs (getD bs 0 0) 0 1)) (k ⨟ end-from bs (getD bs 0 0) 0 1) out steps) (sym c) (o, refl)
 
   pub count-goes-on : (n j : ℕ) → Ok n ≡ passes (getD rs at 0) (count-check rs at) → j ≡ at + 1
       → (out : Option Told) (final : List Step) → Rest rules bs steps (n - 0) 0 j out final → Hears rules steps (case-steps bs) (case-end bs) out final
@@ -96,7 +96,7 @@ module _ (rules : List (Rule ℕ)) (bs rs : List ℕ) (at : ℕ) (steps : List S
       let c : count-check bs 0 ≡ None = sym (ap (λ x. count-check x at) same ∙ ap (count-check bs) front) ∙ p .0 in
       let count : n - 0 ≡ getD bs 0 0 = (let z : n - 0 ≡ n = omega arith in z) ∙ p .1 ∙ ap (λ x. getD x at 0) same ∙ ap (λ x. getD bs x 0) front in
       let first : j ≡ 1 = omega arith in
-      subst (λ k. Hears rules steps (if-passed k (steps-from bs (getD bs 0 0) 0 1)) (k ⨟ end-from bs (getD bs 0 0) 0 1) out final) (sym c)
+      subst (λ k. Hears rules steps (where-passes k (steps-from bs (getD bs 0 0) 0 1)) (k ⨟ end-from bs (getD bs 0 0) 0 1) out final) (sym c)
       (subst₂ (λ k i. Hears rules steps (steps-from bs k 0 i) (end-from bs k 0 i) out final) count first h)
 
 -- the reader stands at i of the same bytes

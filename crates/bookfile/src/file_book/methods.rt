@@ -2,13 +2,14 @@
 ghost use mathlib.Core.Path.{_≡_};
 ghost use mathlib.Core.List.{List};
 ghost use Prim.Native.Nat.{ℕ, _<_};
+ghost use Rattle.refusals.specs.Checks.{count-where-passes};
 ghost use Rattle.refusals.specs.declared.Section.the-variants.{Rules};
 ghost use Rattle.norms.specs.Programs.{Rule};
 ghost use Rattle.rows.specs.Tables.{row-in};
 ghost use Rattle.rows.proofs.Sound.{sound-table};
 ghost use Rattle.bookfile.specs.Layout.{rows-from, rule-count};
 ghost use Rattle.bookfile.specs.Checks.{book-check};
-ghost use Rattle.bookfile.specs.Made.{made-rules, count-where-passes};
+ghost use Rattle.bookfile.specs.Made.{made-rules};
 ghost use Rattle.bookfile.specs.Written.{FileOf};
 ghost use Rattle.bookfile.specs.Views.{rules-of};
 use crate::book_check::check_book;

@@ -6,8 +6,10 @@ use lib.ListN.{getD}
 use Rattle.marks.specs.Words.{members, with-mark}
 use Rattle.refusals.specs.Telling.{refusal}
 use Rattle.refusals.specs.Checks.{refuse-if}
-use Rattle.review.specs.Lists.{unrising, unsayable, says, said-mark}
-use Rattle.review.proofs.Gather.{gather-none, gather-more, gather-stop, gather-all, is-high, is-low, is-unrising, is-first, is-rising, said-high, said-unrising, said-rest}
+use Rattle.refusals.specs.Rising.{unrising}
+use Rattle.refusals.proofs.Rising.{is-unrising, is-first, is-rising}
+use Rattle.review.specs.Lists.{unsayable, says, said-mark}
+use Rattle.review.proofs.Gather.{gather-none, gather-more, gather-stop, gather-all, is-high, is-low, said-high, said-unrising, said-rest}
 use Rattle.review.proofs.lists.check_said.Needs as need
 use Rattle.review.proofs.lists.check_said.Needs.{else-at-gt0·by·then-at-gt0·else-number-before, else-at-gt0·by·else-at-gt0}
 

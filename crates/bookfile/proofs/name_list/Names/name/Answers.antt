@@ -4,7 +4,8 @@ use native.Mathlib.Omega.{arith}
 use Rattle.std.specs.Finite.{nth}
 use Rattle.refusals.proofs.Passed.{none-from}
 use Rattle.bookfile.specs.Layout.{names-in, name-in}
-use Rattle.bookfile.proofs.Asked.{name-told, nth-counted-past}
+use Rattle.books.proofs.Counted.{nth-counted-past}
+use Rattle.bookfile.proofs.Asked.{name-told}
 use Rattle.bookfile.proofs.Passed.{place-within, place-short}
 use Rattle.bookfile.proofs.name_list.Names.name.Needs as need
 

@@ -3,11 +3,12 @@ use Prim.Native.Nat.{_<_, _≤_}
 use native.Mathlib.Omega.{arith}
 use Rattle.refusals.specs.declared.Section.the-variants.{Rules}
 use Rattle.rows.specs.Rows.{body-count}
-use Rattle.rows.specs.Tables.{row-in}
+use Rattle.rows.specs.Tables.{row-in, rule-in}
 use Rattle.refusals.proofs.Passed.{none-from}
 use Rattle.rows.proofs.Sound.{mark-low-in}
+use Rattle.books.proofs.Counted.{rule-past}
 use Rattle.bookfile.specs.Layout.{rows-from}
-use Rattle.bookfile.proofs.Asked.{rule-past, body-past, body-told}
+use Rattle.bookfile.proofs.Asked.{body-past, body-told}
 use Rattle.bookfile.proofs.file_book.methods.FileBookRules.body.Needs as need
 
 pub returns-then-k-body-count : need.returns-then-k-body-count
@@ -28,4 +29,4 @@ returns-else-k-body-count c =
     body-past bs rows-from (c .args .self .now .count) (c .args .n) (c .args .k) (c .if-n-self .taken) past
 
 pub returns-else-n-self : need.returns-else-n-self
-returns-else-n-self c = rule-past (c .args .self .now .bytes .now) rows-from (c .args .self .now .count) (c .args .n) (c .args .k) (c .if-n-self .left)
+returns-else-n-self c = rule-past (rule-in (c .args .self .now .bytes .now) rows-from) (c .args .self .now .count) (c .args .n) (c .args .k) (c .if-n-self .left)

@@ -1,8 +1,10 @@
 use Rattle.refusals.specs.declared.Section.the-variants.{Rules}
 use Rattle.refusals.proofs.Passed.{none-from}
 use Rattle.rows.proofs.Sound.{head-low-in}
+use Rattle.rows.specs.Tables.{rule-in}
+use Rattle.books.proofs.Counted.{head-past}
 use Rattle.bookfile.specs.Layout.{rows-from}
-use Rattle.bookfile.proofs.Asked.{head-past, head-told}
+use Rattle.bookfile.proofs.Asked.{head-told}
 use Rattle.bookfile.proofs.file_book.methods.FileBookRules.head.Needs as need
 
 pub returns-then-n-self : need.returns-then-n-self
@@ -13,4 +15,4 @@ returns-then-n-self c =
     (c .if-n-self .taken)
 
 pub returns-else-n-self : need.returns-else-n-self
-returns-else-n-self c = head-past (c .args .self .now .bytes .now) rows-from (c .args .self .now .count) (c .args .n) (c .if-n-self .left)
+returns-else-n-self c = head-past (rule-in (c .args .self .now .bytes .now) rows-from) (c .args .self .now .count) (c .args .n) (c .if-n-self .left)

@@ -1,0 +1,4 @@
+pub mod Joined
+pub mod Faults
+pub mod Places
+pub mod Sound

@@ -1,0 +1,2 @@
+pub mod Movement
+pub mod Asked

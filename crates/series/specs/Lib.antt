@@ -1,0 +1,5 @@
+pub mod Moved
+pub mod Checks
+pub mod Faults
+pub mod Made
+pub mod Sound
