@@ -1,7 +1,7 @@
 // The questions that a book answers, from two books.
 ghost use mathlib.Core.Path.{_≡_};
 ghost use Rattle.std.specs.Finite.{nth};
-ghost use Rattle.joint.specs.Joined.{joint-rules};
+ghost use Rattle.joint.specs.Joined.{joint-check, joint-rules, meant};
 ghost use Rattle.joint.specs.Places.{at-place};
 ghost use Rattle.joint.specs.Sound.{sound-joint};
 use crate::check::check_joint;
@@ -15,6 +15,7 @@ impl<F: Book, S: Book> Joint<F, S> {
     pub fn new(first: F, second: S) -> Joint<F, S>
         ensures first { λ r. ⌜ r .first ≡ first ⌝ }
         ensures second { λ r. ⌜ r .second ≡ second ⌝ }
+        ensures rules { λ r. ⌜ joint-rules (F·Book .rules (r .first)) (S·Book .rules (r .second)) ≡ meant (joint-check (F·Book .rules first) (S·Book .rules second)) (F·Book .rules first) (S·Book .rules second) ⌝ }
     {
         Joint { first, second }
     }
