@@ -13,7 +13,7 @@ use Rattle.std.specs.declared.option.Option.the-variants.{None, Some}
 use Rattle.std.specs.declared.result.Result.{Result}
 use Rattle.std.specs.declared.result.Result.the-variants.{Ok, Err}
 use Rattle.std.proofs.shelf.Lists.{take-all}
-use Rattle.std.proofs.shelf.Tests.{cases-lt, cond-true, lt-ltb, le-ltb, and-left, and-right, and-from, or-from}
+use Rattle.std.proofs.shelf.Tests.{cases-lt, cond-true, lt-ltb, le-ltb, and-left, and-right, and-from, and-parts, and-cases, or-from, ltb-true, ltb-false}
 use Rattle.refusals.specs.declared.Told.{Told}
 use Rattle.refusals.specs.declared.Item.{Item}
 use Rattle.refusals.specs.Telling.{refusal-in}
@@ -72,21 +72,35 @@ module _ (row : List ℕ) (width moving p : ℕ) where
         let high : moved row width moving m p ≡ mark-in row p + 8 * width * m = ap (λ x. mark-in row p + x) (cond-true (bit moving p) (8 * width * m) 0 moves) in
         omega (arith, mul-le-mul-left (8 * width) less)
 
-    pub all-low : (count last : ℕ) → last + 1 ≡ count → p ≤ body-count row → moved row width moving last p ≤ 1023 → position-check row width count moving p ≡ None
-    all-low count last next low most =
+    all-low : (count : ℕ) → p ≤ body-count row → moved row width moving (count - 1) p ≤ 1023 → position-check row width count moving p ≡ None
+    all-low count low most =
         used count low
         ∙ all-passed (high-check row width moving p) count
-        (λ n below. passed-if _ out-of-bounds (and-right (bit moving p) (ltb 1023 (moved row width moving n p)) (le-ltb 1023 (moved row width moving n p) (omega (arith, earlier n last (omega arith))))))
+        (λ n below. passed-if _ out-of-bounds (and-right (bit moving p) (ltb 1023 (moved row width moving n p)) (le-ltb 1023 (moved row width moving n p) (omega (arith, earlier n (count - 1) (omega arith))))))
 
-    pub no-rule : (count : ℕ) → count ≡ 0 → p ≤ body-count row → position-check row width count moving p ≡ None
+    no-rule : (count : ℕ) → count ≡ 0 → p ≤ body-count row → position-check row width count moving p ≡ None
     no-rule count none low = used count low ∙ ap (λ k. first-below k (high-check row width moving p)) none ∙ first-none (high-check row width moving p)
 
-    pub last-high : (count last : ℕ) → last + 1 ≡ count → p ≤ body-count row → 1023 < moved row width moving last p → position-check row width count moving p ≡ Some out-of-bounds
-    last-high count last next low high =
-        let same : suc last ≡ count = omega arith in
+    last-high : (count : ℕ) → 0 < count → p ≤ body-count row → 1023 < moved row width moving (count - 1) p → position-check row width count moving p ≡ Some out-of-bounds
+    last-high count some low high =
+        let last = count - 1 in
+        let next : suc last ≡ count = omega arith in
         used count low
-        ∙ ap (λ k. first-below k (high-check row width moving p)) (sym same)
+        ∙ ap (λ k. first-below k (high-check row width moving p)) (sym next)
         ∙ same-refused (λ n. bit moving p && ltb 1023 (moved row width moving n p)) out-of-bounds last (and-from (bit moving p) (ltb 1023 (moved row width moving last p)) moves (lt-ltb 1023 (moved row width moving last p) high))
+
+    -- the last rule decides
+    pub ends-low : (count : ℕ) → p ≤ body-count row → (ltb 0 count && ltb 1023 (moved row width moving (count - 1) p)) ≡ false → position-check row width count moving p ≡ None
+    ends-low count low ends =
+        ⊎-elim
+        (λ none. no-rule count (omega (arith, ltb-false 0 count none)) low)
+        (λ most. all-low count low (ltb-false 1023 (moved row width moving (count - 1) p) most))
+        (and-cases (ltb 0 count) (ltb 1023 (moved row width moving (count - 1) p)) ends)
+
+    pub ends-high : (count : ℕ) → p ≤ body-count row → (ltb 0 count && ltb 1023 (moved row width moving (count - 1) p)) ≡ true → position-check row width count moving p ≡ Some out-of-bounds
+    ends-high count low ends =
+        let parts = and-parts (ltb 0 count) (ltb 1023 (moved row width moving (count - 1) p)) ends in
+        last-high count (ltb-true 0 count (parts .0)) low (ltb-true 1023 (moved row width moving (count - 1) p) (parts .1))
 
 -- a row that is not too long is checked where it stands
 pub row-checked : (row : List ℕ) → length row ≤ 32

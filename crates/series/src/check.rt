@@ -1,10 +1,13 @@
 // The check of a series.
 ghost use mathlib.Core.Path.{_≡_};
-ghost use Prim.Native.Nat.{_<_};
+ghost use mathlib.Core.Bool.{_&&_};
+ghost use Prim.Native.Nat.{_-_, _<_};
+ghost use lib.Dec.{ltb};
 ghost use Rattle.refusals.specs.Telling.{answered};
 ghost use Rattle.refusals.specs.Checks.{passes};
 ghost use Rattle.series.specs.Checks.{position-check, movement-check, series-check};
 ghost use Rattle.series.specs.Faults.{series-told};
+ghost use Rattle.series.specs.Moved.{moved};
 use crate::fault::SeriesFault;
 use crate::fault::SeriesFaultFromRow;
 use crate::moved::moved;
@@ -15,8 +18,15 @@ use refusals::Section;
 use rows::body_count;
 use rows::check_row;
 
-// Whether the mark at the position may move: where the row has such a mark, and it stays below 1,024 in the last rule
-// and so in all of them.
+// Whether the mark at the position is above 1,023 in the last of so many rules. It is then the highest.
+fn ends_high(row: &[u8], width: u8, count: u8, moving: u16, position: usize) -> bool
+    requires { ⌜ position < 16 ⌝ }
+    ensures { λ r. ⌜ r ≡ (ltb 0 count && ltb 1023 (moved (now (row .entry)) width moving (count - 1) position)) ⌝ }
+{
+    count > 0 && moved(row, width, moving, count - 1, position) > 1023
+}
+
+// Whether the mark at the position may move: where the row has such a mark, and it stays below 1,024 in all rules.
 fn check_position(
     row: &[u8],
     width: u8,
@@ -33,7 +43,7 @@ fn check_position(
     if position > body_count(row) {
         return Err(SeriesFault::Movement);
     }
-    if count > 0 && moved(row, width, moving, count - 1, position) > 1023 {
+    if ends_high(row, width, count, moving, position) {
         return Err(SeriesFault::Movement);
     }
     Ok(())

@@ -1,4 +1,5 @@
 use mathlib.Core.Path.{refl, sym, ap, _∙_}
+use native.Mathlib.Omega.{arith}
 use Rattle.std.proofs.shelf.Results.{err-from-errBy}
 use Rattle.refusals.specs.Checks.{passes}
 use Rattle.refusals.proofs.First.{first-none}
@@ -16,7 +17,7 @@ returns-in-Break-check-position c =
     let check = position-check (c .args .row .now) (c .args .width) (c .args .count) (c .args .moving) in
     rw (p .1, p .2)
     (call-refused tt check (c .loop-position .position) _ (c .loop-position .inv) refl tt _ (c .in-Break-check-position .ensures tt) 16 (c .loop-position-test .taken)
-    ∙ sym (ap (passes tt) (positions-left (c .args .row .now) (c .args .width) (c .args .count) (c .args .moving) (c .if-width-gt127 .left) (c .if-count-gt128 .left))))
+    ∙ sym (ap (passes tt) (positions-left (c .args .row .now) (c .args .width) (c .args .count) (c .args .moving) (omega arith) (omega arith))))
 
 pub loop-position-again : need.loop-position-again
 loop-position-again c =
