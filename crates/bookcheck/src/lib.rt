@@ -1,4 +1,6 @@
 // The check of a book file.
+#![tactic(auto)]
+
 mod book_check;
 mod fault;
 mod name_check;

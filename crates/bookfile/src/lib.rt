@@ -1,7 +1,10 @@
-// The book that a file holds, and the names of the instances.
+// The book file: its check, the book that it holds, and the names of the instances.
+#![tactic(auto)]
+
 mod file_book;
 mod name_list;
 mod places;
 
+pub use bookcheck::{BookFault, NameFault, check_book};
 pub use file_book::FileBook;
 pub use name_list::Names;

@@ -1,4 +1,6 @@
 // Reading the steps of a case file.
+#![tactic(auto)]
+
 mod case_check;
 mod fault;
 mod lists;

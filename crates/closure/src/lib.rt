@@ -1,4 +1,6 @@
 // The smallest closed set of a proposal, by rounds over a book.
+#![tactic(auto)]
+
 ghost use Rattle.std.specs.Prelude.{ℕ, ◌≤◌, Decides};
 ghost use Rattle.std.specs.List.{ContainsAt as Has};
 ghost use Rattle.marks.specs.Sets.{Set};

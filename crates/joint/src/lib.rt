@@ -1,4 +1,6 @@
 // The joint book: the rules of one book followed by those of another.
+#![tactic(auto)]
+
 mod check;
 mod fault;
 mod joint;

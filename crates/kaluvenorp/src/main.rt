@@ -1,5 +1,7 @@
 // Judges the case of the folder that it is started in: reads the files `book` and `case`, and prints the
 // findings of the steps that stand, and a last line.
+#![tactic(auto)]
+
 use bookfile::Names;
 use books::Book;
 use report::{LineFault, last_line, report_line};

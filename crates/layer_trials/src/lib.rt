@@ -1,4 +1,6 @@
 // Tests of the books that stand on others, as tables.
+#![tactic(auto)]
+
 #[cfg(test)]
 mod layers;
 #[cfg(test)]

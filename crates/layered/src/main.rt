@@ -1,5 +1,7 @@
 // A review over three layers: a book file and a series are joined, and one rule of both is suspended. Reading is
 // then no longer enabled, so that the one step of the case is a breach, whose line is printed.
+#![tactic(auto)]
+
 use bookfile::{FileBook, Names};
 use books::Book;
 use joint::Joint;

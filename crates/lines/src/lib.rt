@@ -1,4 +1,6 @@
 // The lines of a report, written into a lent buffer.
+#![tactic(auto)]
+
 mod digits;
 mod fault;
 mod report;

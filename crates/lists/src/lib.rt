@@ -1,5 +1,7 @@
 // The two lists of a proposal: what is said, and what is proposed. Each is checked from the front, and its marks are
 // gathered.
+#![tactic(auto)]
+
 mod fault;
 mod lists;
 

@@ -1,4 +1,6 @@
 // Marks, and sets of marks.
+#![tactic(auto)]
+
 mod mark;
 mod mark_set;
 

@@ -1,4 +1,6 @@
 // How many marks a set has, and the lowest of them, a word of 64 marks at a time.
+#![tactic(auto)]
+
 ghost use Rattle.std.specs.Prelude.{◌≡◌, ◌≤◌, length};
 ghost use Rattle.std.specs.Option.{option_map};
 ghost use Rattle.marks.specs.Members.{marks_in, lowest};

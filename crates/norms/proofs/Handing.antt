@@ -1,6 +1,6 @@
 -- What a step hands on, as two rules for each instance. Assumes nothing.
 use Rattle.std.proofs.Common.{◌≡◌, ℕ, ◌+◌, ◌*◌, ◌/◌, ◌%◌, ◌<◌, ◌≤◌, Bool, true, false, not, ◌&&◌, ◌||◌, eqb, ◌⊎◌, sym, refl, ap, ◌∙◌, subst, ap₂, inl, inr, ⊎_elim, arith}
-use Rattle.std.proofs.lemmas.Bool.{false≢true, and_parts, and_from, or_cases, or_left, or_right, not_true, not_from_false, eqb-true, eq-eqb, cases_lt}
+use Rattle.std.proofs.lemmas.Bool.{false≢true, and_parts, and_from, or_cases, or_left, or_right, not-true, not_from_false, eqb-true, eq-eqb, cases_lt}
 use Rattle.marks.specs.Sets.{Set, ◌∈◌}
 use Rattle.marks.specs.Numbers.{mark, instance, attribute, carried, created, ended}
 use Rattle.norms.specs.Steps.{handed_on, Handing}
@@ -15,7 +15,7 @@ module _ (M : Set ℕ) (low : (m : ℕ) → 1024 ≤ m → M m ≡ false) where
   apart m e =
       let both = and_parts (eqb (attribute m) carried && (M (mark (instance m) created) || M m)) (not (M (mark (instance m) ended))) e in
       let front = and_parts (eqb (attribute m) carried) (M (mark (instance m) created) || M m) both.0 in
-      (front.0, front.1, not_true (M (mark (instance m) ended)) both.1)
+      (front.0, front.1, not-true (M (mark (instance m) ended)) both.1)
 
   to : (c : ℕ) → c ∈ handed_on M → (a : ℕ) × (e : ℕ) × Handing c a e × (a ∈ M) × (M e ≡ false)
   to c h =

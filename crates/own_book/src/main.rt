@@ -1,5 +1,7 @@
 // An example of a book of one's own: the review takes it like any other, since it asks the interface alone. An act is
 // done before its fact holds, which is a breach, and once more while it holds, which is none.
+#![tactic(auto)]
+
 mod permission;
 
 use books::Book;

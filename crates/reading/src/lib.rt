@@ -1,4 +1,6 @@
 // Reading the bytes of a file from the front.
+#![tactic(auto)]
+
 mod fault;
 mod reader;
 

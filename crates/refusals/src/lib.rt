@@ -1,4 +1,6 @@
 // What a refusal tells: a number with one meaning on every input, and the spot.
+#![tactic(auto)]
+
 ghost use Rattle.std.specs.Prelude.{◌≡◌};
 ghost use Rattle.refusals.specs.declared.Told.{Told};
 ghost use Rattle.refusals.specs.declared.Section.{Section};

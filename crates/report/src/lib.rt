@@ -1,4 +1,6 @@
 // The report: a line for each finding, and a last line.
+#![tactic(auto)]
+
 mod fault;
 mod line;
 

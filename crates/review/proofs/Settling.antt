@@ -21,14 +21,14 @@ module _ (rules : List (Rule ℕ)) (steps : List Step) (said proposed : List ℕ
 
   -- a stable step has no mark left out and none unfounded
   no_left_out : StableStep rules steps (among said) (among proposed) → (t : Told) → LeftOut rules steps said proposed t → ⊥
-  no_left_out stable t l = both_ways (among proposed l.m) l.not-proposed (sym (one l.L (among proposed) l.m l.brought stable) ∙ l.in-L)
+  no_left_out stable t l = both_ways (among proposed l.m) l.not_proposed (sym (one l.L (among proposed) l.m l.brought stable) ∙ l.in_L)
 
   no_unfounded : StableStep rules steps (among said) (among proposed) → (t : Told) → Unfounded rules steps said proposed t → ⊥
   no_unfounded stable t u = both_ways (among proposed u.m) (sym (one u.L (among proposed) u.m u.brought stable) ∙ u.not_in_L) u.proposed_m
 
   not_both : (t u : Told) → LeftOut rules steps said proposed t → Unfounded rules steps said proposed u → ⊥
   not_both t u l f =
-      both_ways (among proposed l.m) l.not-proposed (f.all l.m (sym (one l.L f.L l.m l.brought f.brought) ∙ l.in-L))
+      both_ways (among proposed l.m) l.not_proposed (f.all l.m (sym (one l.L f.L l.m l.brought f.brought) ∙ l.in_L))
 
   refusals : (t u : Told) → LeftOut rules steps said proposed t ⊎ Unfounded rules steps said proposed t
       → LeftOut rules steps said proposed u ⊎ Unfounded rules steps said proposed u → Alike (Err t) (Err u)

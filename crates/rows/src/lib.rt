@@ -1,4 +1,6 @@
 // The row form of a rule: 32 bytes.
+#![tactic(auto)]
+
 mod fault;
 mod peek;
 mod row;

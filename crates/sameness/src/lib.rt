@@ -1,4 +1,6 @@
 // Whether two books mean equal rules, from what they answer alone.
+#![tactic(auto)]
+
 ghost use Rattle.std.specs.Prelude.{Decides};
 ghost use Rattle.norms.specs.Equal.{Equal, Equivalence, Joined, Alike};
 ghost use Rattle.sameness.specs.Parts.{PartHas, Within, SameMarks, Requires, Bars, SameHead};

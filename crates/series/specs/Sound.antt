@@ -6,7 +6,7 @@ use Rattle.std.specs.List.{AllByRecursion as All}
 use Rattle.std.proofs.lemmas.List.{take-append-drop, length-take, length-drop}
 use Rattle.std.proofs.lemmas.List.FromFn.{length-map-range_with_len, get_or-map-range_with_len}
 use Rattle.std.proofs.ByRecursion.{All-from_get_or}
-use Rattle.std.proofs.lemmas.Bool.{ltb-false, eqb-true, or_cases, or_parts, and_cases, cases_Bool, both_ways, cond-true, cond-false, not_true}
+use Rattle.std.proofs.lemmas.Bool.{ltb-false, eqb-true, or_cases, or_parts, and_cases, cases_Bool, both_ways, cond-true, cond-false, not-true}
 use Rattle.refusals.specs.Checks.{first_below}
 use Rattle.marks.specs.Numbers.{attribute}
 use Rattle.marks.specs.Words.{bit}
@@ -96,7 +96,7 @@ module _ (row : List ℕ) (width count moving : ℕ) (checked : (count == 0 || n
   ways =
       ⊎_elim
       (λ none. inl (eqb-true count 0 none))
-      (λ passes. inr (none_from _ (not_true _ passes)))
+      (λ passes. inr (none_from _ (not-true _ passes)))
       (or_cases (count == 0) (not (is_some (series_check row width count moving))) checked)
 
   pub passes_at : (n : ℕ) → n < count → series_check row width count moving ≡ None

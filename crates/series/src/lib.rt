@@ -1,4 +1,6 @@
 // The series book: one row, and rules that come from it by moving some of its marks step by step.
+#![tactic(auto)]
+
 mod check;
 mod fault;
 mod moved;

@@ -1,4 +1,6 @@
 // The steps that stand: one record a step, in a table with places for 64.
+#![tactic(auto)]
+
 mod comparison;
 mod record;
 mod table;

@@ -1,4 +1,6 @@
 // The suspension: a book with some of its rules set aside.
+#![tactic(auto)]
+
 mod check;
 mod fault;
 mod suspension;

@@ -1,4 +1,6 @@
 // Exchanges with a review: calls with their arguments, each with a place for its answer.
+#![tactic(auto)]
+
 mod exchange;
 mod hearing;
 

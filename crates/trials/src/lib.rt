@@ -1,4 +1,6 @@
 // Tests over all layers, as tables.
+#![tactic(auto)]
+
 #[cfg(test)]
 mod damaged;
 #[cfg(test)]

@@ -1,6 +1,8 @@
 // Two officers review the same case, each by clicks of their own, and are told how they stand to each other:
 // over a book with a default and its exception, over a book with levels, and over the same rules written in
 // another order with one of them repeated.
+#![tactic(auto)]
+
 mod clicks;
 
 use bookfile::FileBook;

@@ -1,5 +1,7 @@
 // Two reviews, each asked on its own, and how they stand to each other in the end. The contract of
 // `compare_reviews` is the law over two reviews.
+#![tactic(auto)]
+
 ghost use Rattle.std.specs.Prelude.{◌≡◌};
 ghost use Rattle.transcripts.specs.Views.{asks, transcript};
 ghost use Rattle.two_reviews.specs.Law.{Law};

@@ -7,8 +7,8 @@ use Rattle.members.proofs.count.Goals as goal
 pub loop-word-init : goal.loop-word-init
 loop-word-init c = sym (below_none (members c.args.set.now))
 
-pub overflow-add-marks : goal.overflow-add-marks
-overflow-add-marks c =
+pub overflow_add-marks : goal.overflow_add-marks
+overflow_add-marks c =
     let M = members c.args.set.now in
     let i = c.loop-word.word-index in
     let next = below_word M c.words-words.result i c.words-words.ensures c.loop-word-test.true in

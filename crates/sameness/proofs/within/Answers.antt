@@ -4,7 +4,7 @@ use Rattle.std.proofs.lemmas.Bool.{cases_eq}
 use Rattle.books.specs.Asked.{body_of}
 use Rattle.sameness.specs.Parts.{PartHas}
 use Rattle.sameness.proofs.within.Goals as goal
-use Rattle.sameness.proofs.within.Goals.{in-Some+else-not-has, in-default}
+use Rattle.sameness.proofs.within.Goals.{in-Some+else-not-has, in_default}
 
 -- the mark at the place of this turn
 here : (g : _) (c : goal.Joined-body g) (m : ℕ) → body_of (g.F.Book.rules c.args.first.now) c.args.part.rule c.loop-place.place ≡ Some m
@@ -13,7 +13,7 @@ here g c m told =
     elim c.match-body.branch [
       | in-Some+else-not-has w ↦
           subst (PartHas (g.S.Book.rules c.args.second.now) c.args.other) (same_Some w.in-Some.mark.number m (w.in-Some.ensures ∙ told)) (w.has.ensures.0 w.if-not-has.false)
-      | in-default w ↦ absurd (none-some m (w.in-default.ensures ∙ told))
+      | in_default w ↦ absurd (none-some m (w.in_default.ensures ∙ told))
     ]
 
 pub loop-place-preserved : goal.loop-place-preserved

@@ -9,8 +9,8 @@ pub returns : goal.returns
 returns g c =
     let one = c.hear.new.review in
     let other = c.hear-2.new.review in
-    let xs = transcript c.args.of-first.now c.hear.new.exchanges in
-    let ys = transcript c.args.of-second.now c.hear-2.new.exchanges in
+    let xs = transcript c.args.of_first.now c.hear.new.exchanges in
+    let ys = transcript c.args.of_second.now c.hear-2.new.exchanges in
     record {
       law =
           law_of_steps (g.A.Book.rules c.args.first.now) (g.B.Book.rules c.args.second.now) xs ys c.compare.result

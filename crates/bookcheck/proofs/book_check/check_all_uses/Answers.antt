@@ -8,11 +8,11 @@ use Rattle.bookcheck.proofs.book_check.check_all_uses.Goals as goal
 pub loop-n-init : goal.loop-n-init
 loop-n-init c = first_none (uses_check c.args.names c.args.bytes.now)
 
-pub returns-in-err-check-uses : goal.returns-in-err-check-uses
-returns-in-err-check-uses c =
-    let p = err_from_is_err_and c.from-residual.result c.from-residual.ensures.1 in
+pub returns-in_err-check_uses : goal.returns-in_err-check_uses
+returns-in_err-check_uses c =
+    let p = err_from_is_err_and c.from_residual.result c.from_residual.ensures.1 in
     rw (p.1, p.2)
-    (call_refused tt (uses_check c.args.names c.args.bytes.now) c.loop-n.n _ c.loop-n.invariant refl tt _ c.in-err-check-uses.ensures c.args.rules c.loop-n-test.true)
+    (call_refused tt (uses_check c.args.names c.args.bytes.now) c.loop-n.n _ c.loop-n.invariant refl tt _ c.in_err-check_uses.ensures c.args.rules c.loop-n-test.true)
 
 pub loop-n-preserved : goal.loop-n-preserved
-loop-n-preserved c = call_passed tt (uses_check c.args.names c.args.bytes.now) c.loop-n.n _ c.loop-n.invariant refl _ c.in-ok-check-uses.ensures
+loop-n-preserved c = call_passed tt (uses_check c.args.names c.args.bytes.now) c.loop-n.n _ c.loop-n.invariant refl _ c.in_ok-check_uses.ensures

@@ -10,12 +10,12 @@ use Rattle.bookcheck.proofs.book_check.check_each_name.Goals as goal
 pub loop-n-init : goal.loop-n-init
 loop-n-init c = (refl, sym c.at-from.ensures.value ∙ sym (name_at_none c.args.bytes.now c.at-from.result), first_none (name_check c.args.bytes.now c.at-from.result))
 
-pub returns-in-err-check-name : goal.returns-in-err-check-name
-returns-in-err-check-name c =
-    let p = err_from_is_err_and c.from-residual.result c.from-residual.ensures.1 in
+pub returns-in_err-check_name : goal.returns-in_err-check_name
+returns-in_err-check_name c =
+    let p = err_from_is_err_and c.from_residual.result c.from_residual.ensures.1 in
     rw (p.1, p.2) record {
       answer =
-          call_refused tt (name_check c.args.bytes.now c.at-from.result) c.loop-n.n _ c.loop-n.invariant.2 refl tt _ c.in-err-check-name.ensures.answer c.args.count c.loop-n-test.true
+          call_refused tt (name_check c.args.bytes.now c.at-from.result) c.loop-n.n _ c.loop-n.invariant.2 refl tt _ c.in_err-check_name.ensures.answer c.args.count c.loop-n-test.true
           ∙ ap (λ from. passes tt (first_below c.args.count (name_check c.args.bytes.now from))) c.at-from.ensures.value;
       bytes = refl;
       at = refl;
@@ -23,7 +23,7 @@ returns-in-err-check-name c =
 
 pub loop-n-preserved : goal.loop-n-preserved
 loop-n-preserved c = (
-  c.in-ok-check-name.ensures.bytes ∙ c.loop-n.invariant.0,
-  c.in-ok-check-name.ensures.at,
-  call_passed tt (name_check c.args.bytes.now c.at-from.result) c.loop-n.n _ c.loop-n.invariant.2 refl _ c.in-ok-check-name.ensures.answer,
+  c.in_ok-check_name.ensures.bytes ∙ c.loop-n.invariant.0,
+  c.in_ok-check_name.ensures.at,
+  call_passed tt (name_check c.args.bytes.now c.at-from.result) c.loop-n.n _ c.loop-n.invariant.2 refl _ c.in_ok-check_name.ensures.answer,
 )

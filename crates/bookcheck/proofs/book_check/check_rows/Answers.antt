@@ -17,23 +17,23 @@ loop-n-init c = (refl, omega arith, first_none (row_check_in Rules c.args.reader
 here : (item : Item) (bs all : List ℕ) (at n : ℕ) → item ≡ rule_item n → bs ≡ all → at ≡ row_at rows_from n → row_check_at item bs at ≡ row_check_in Rules all rows_from n
 here item bs all at n e f g = ap (λ i. row_check_at i bs at) e ∙ ap (λ b. row_check_at (rule_item n) b at) f ∙ ap (row_check_at (rule_item n) all) g
 
-pub returns-in-err-check-row : goal.returns-in-err-check-row
-returns-in-err-check-row c =
-    let p = err_from_is_err_and c.from-residual.result c.from-residual.ensures.1 in
+pub returns-in_err-check_row : goal.returns-in_err-check_row
+returns-in_err-check_row c =
+    let p = err_from_is_err_and c.from_residual.result c.from_residual.ensures.1 in
     rw (p.1, p.2) record {
       answer =
           call_refused tt (row_check_in Rules c.args.reader.now.bytes.now rows_from) c.loop-n.n _ c.loop-n.invariant.2
           (here _ _ _ _ _ c.of.ensures c.loop-n.invariant.0 c.loop-n.invariant.1)
-          tt _ c.in-err-check-row.ensures.answer c.args.count c.loop-n-test.true;
+          tt _ c.in_err-check_row.ensures.answer c.args.count c.loop-n-test.true;
       bytes = refl;
       at = c.requires;
     }
 
 pub loop-n-preserved : goal.loop-n-preserved
 loop-n-preserved c = (
-  c.in-ok-check-row.ensures.bytes ∙ c.loop-n.invariant.0,
-  c.in-ok-check-row.ensures.at ∙ omega arith,
+  c.in_ok-check_row.ensures.bytes ∙ c.loop-n.invariant.0,
+  c.in_ok-check_row.ensures.at ∙ omega arith,
   call_passed tt (row_check_in Rules c.args.reader.now.bytes.now rows_from) c.loop-n.n _ c.loop-n.invariant.2
       (here _ _ _ _ _ c.of.ensures c.loop-n.invariant.0 c.loop-n.invariant.1)
-      _ c.in-ok-check-row.ensures.answer,
+      _ c.in_ok-check_row.ensures.answer,
 )

@@ -5,4 +5,4 @@ use Rattle.bookcheck.specs.Checks.{apart_check}
 use Rattle.bookcheck.proofs.name_check.check_new.Given as goal
 
 abbrev pub invariant-loop-k : goal.invariant-loop-k
-invariant-loop-k l = (l.place ≡ name_at l.bytes l.from l.-k) × (first_below l.-k (apart_check l.item l.at l.bytes l.from l.name) ≡ None)
+invariant-loop-k l = (l.place ≡ name_at l.bytes l.from l._k) × (first_below l._k (apart_check l.item l.at l.bytes l.from l.name) ≡ None)

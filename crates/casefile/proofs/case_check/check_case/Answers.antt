@@ -8,40 +8,40 @@ use Rattle.casefile.proofs.More.{end_none, goes_on, stops}
 use Rattle.casefile.proofs.Law.{call_law, steps_read}
 use Rattle.casefile.proofs.case_check.check_case.Goals as goal
 
-pub returns-in-err-count : goal.returns-in-err-count
-returns-in-err-count c =
+pub returns-in_err-count : goal.returns-in_err-count
+returns-in_err-count c =
     let bs = c.args.bytes.now in
-    let answer : answered case_told c.from-residual.result ≡ passes tt (case_end bs) = search rules in
-    record { answer = answer; law = call_law c.from-residual.result bs (λ i. let f = c.type-inv.bytes i in omega arith) answer; meant = steps_read bs }
+    let answer : answered case_told c.from_residual.result ≡ passes tt (case_end bs) = search rules in
+    record { answer = answer; law = call_law c.from_residual.result bs (λ i. let f = c.type_inv.bytes i in omega arith) answer; meant = steps_read bs }
 
 pub loop-step-preserved : goal.loop-step-preserved
 loop-step-preserved c =
     let bs = c.args.bytes.now in
     let reader = c.loop-step.reader in
     let inv = c.loop-step.invariant in
-    let step = c.in-ok-read-step.ensures in (
+    let step = c.in_ok-read_step.ensures in (
       search rules,
-      goes_on bs reader.bytes.now inv.0 c.in-ok-count.count c.loop-step.step reader.at c.loop-step-test.true (case_end bs) inv.1
-          c.read-step.new.reader.at step.answer step.at,
+      goes_on bs reader.bytes.now inv.0 c.in_ok-count.count c.loop-step.step reader.at c.loop-step-test.true (case_end bs) inv.1
+          c.read_step.new.reader.at step.answer step.at,
     )
 
-pub returns-in-err-read-step : goal.returns-in-err-read-step
-returns-in-err-read-step c =
+pub returns-in_err-read_step : goal.returns-in_err-read_step
+returns-in_err-read_step c =
     let bs = c.args.bytes.now in
     let reader = c.loop-step.reader in
     let inv = c.loop-step.invariant in
-    let told = case_told c.in-err-read-step.field-0.0 in
-    let r = c.from-residual-in-err-read-step.result in
-    let p = err_from_is_err_and r c.from-residual-in-err-read-step.ensures.1 in
+    let told = case_told c.in_err-read_step.field-0.0 in
+    let r = c.from_residual-in_err-read_step.result in
+    let p = err_from_is_err_and r c.from_residual-in_err-read_step.ensures.1 in
     let answer : answered case_told r ≡ passes tt (case_end bs) =
     rw (p.1, p.2)
-    (stops bs reader.bytes.now inv.0 c.in-ok-count.count c.loop-step.step reader.at c.loop-step-test.true (case_end bs) inv.1 told
-    c.in-err-read-step.ensures.answer) in
-    record { answer = answer; law = call_law r bs (λ i. let f = c.type-inv.bytes i in omega arith) answer; meant = steps_read bs }
+    (stops bs reader.bytes.now inv.0 c.in_ok-count.count c.loop-step.step reader.at c.loop-step-test.true (case_end bs) inv.1 told
+    c.in_err-read_step.ensures.answer) in
+    record { answer = answer; law = call_law r bs (λ i. let f = c.type_inv.bytes i in omega arith) answer; meant = steps_read bs }
 
 pub returns : goal.returns
 returns c =
     let bs = c.args.bytes.now in
     let none = end_none bs c.loop-step.step c.loop-step.reader.at in
-    let answer : answered case_told c.read-end.result ≡ passes tt (case_end bs) = search rules in
-    record { answer = answer; law = call_law c.read-end.result bs (λ i. let f = c.type-inv.bytes i in omega arith) answer; meant = steps_read bs }
+    let answer : answered case_told c.read_end.result ≡ passes tt (case_end bs) = search rules in
+    record { answer = answer; law = call_law c.read_end.result bs (λ i. let f = c.type_inv.bytes i in omega arith) answer; meant = steps_read bs }

@@ -4,26 +4,26 @@ use Rattle.casefile.specs.Cases.{marks_in}
 use Rattle.casefile.proofs.TwoLists.{said_refused, is_said, ends_step, proposed_refused, is_proposed, step_read}
 use Rattle.casefile.proofs.steps.read_step.Goals as goal
 
-pub returns-in-err-said : goal.returns-in-err-said
-returns-in-err-said c =
-    let p = err_from_is_err_and c.from-residual.result c.from-residual.ensures.1 in
+pub returns-in_err-said : goal.returns-in_err-said
+returns-in_err-said c =
+    let p = err_from_is_err_and c.from_residual.result c.from_residual.ensures.1 in
     rw (p.1, p.2) record {
-      answer = said_refused c.args.step c.of-item.result c.of-item.ensures c.args.reader.now.bytes.now c.args.reader.now.at _ c.in-err-said.ensures.answer;
+      answer = said_refused c.args.step c.of-item.result c.of-item.ensures c.args.reader.now.bytes.now c.args.reader.now.at _ c.in_err-said.ensures.answer;
       bytes = refl;
       at = refl;
       said = refl;
       proposed = refl;
     }
 
-pub returns-in-err-proposed : goal.returns-in-err-proposed
-returns-in-err-proposed c =
-    let p = err_from_is_err_and c.from-residual-in-err-proposed.result c.from-residual-in-err-proposed.ensures.1 in
-    let said = c.in-ok-said.ensures in
+pub returns-in_err-proposed : goal.returns-in_err-proposed
+returns-in_err-proposed c =
+    let p = err_from_is_err_and c.from_residual-in_err-proposed.result c.from_residual-in_err-proposed.ensures.1 in
+    let said = c.in_ok-said.ensures in
     rw (p.1, p.2) record {
       answer =
           proposed_refused c.args.step c.of-item.result c.of-item.ensures c.args.reader.now.bytes.now c.args.reader.now.at
-          (marks_in c.in-ok-said.said.now) said.answer c.take-list.new.reader.bytes.now said.bytes c.take-list.new.reader.at said.at
-          _ c.in-err-proposed.ensures.answer;
+          (marks_in c.in_ok-said.said.now) said.answer c.take_list.new.reader.bytes.now said.bytes c.take_list.new.reader.at said.at
+          _ c.in_err-proposed.ensures.answer;
       bytes = refl;
       at = refl;
       said = refl;
@@ -34,17 +34,17 @@ pub returns : goal.returns
 returns c =
     let bs = c.args.reader.now.bytes.now in
     let i = c.args.reader.now.at in
-    let said = c.in-ok-said.ensures in
-    let proposed = c.in-ok-proposed.ensures in
-    let rs = c.take-list.new.reader.bytes.now in
-    let j = c.take-list.new.reader.at in
-    let xs = marks_in c.in-ok-said.said.now in
-    let ys = marks_in c.in-ok-proposed.proposed.now in
+    let said = c.in_ok-said.ensures in
+    let proposed = c.in_ok-proposed.ensures in
+    let rs = c.take_list.new.reader.bytes.now in
+    let j = c.take_list.new.reader.at in
+    let xs = marks_in c.in_ok-said.said.now in
+    let ys = marks_in c.in_ok-proposed.proposed.now in
     record {
       answer = step_read c.args.step c.of-item.result c.of-item.ensures bs i xs said.answer rs said.bytes j said.at ys proposed.answer;
       bytes = proposed.bytes ∙ said.bytes;
       at =
-          ends_step c.args.step c.of-item.result c.of-item.ensures bs i xs said.answer rs said.bytes j said.at c.take-list-2.new.reader.at proposed.at;
+          ends_step c.args.step c.of-item.result c.of-item.ensures bs i xs said.answer rs said.bytes j said.at c.take_list-2.new.reader.at proposed.at;
       said = c.fill.ensures.said ∙ is_said c.args.step c.of-item.result c.of-item.ensures bs i xs said.answer rs said.bytes j said.at;
       proposed =
           c.fill.ensures.proposed

@@ -14,5 +14,5 @@ pub returns : goal.returns
 returns c = record {
   answer = fits _ _ _ (length_three c.args.first.now c.args.second.now c.args.third.now) c.if-buffer-needed.false;
   within = c.if-buffer-needed.false;
-  text = three_words c.args.first.now c.args.second.now c.args.buffer.now c.put-word-at.result c.put-word-at.ensures.text c.put-word-at.ensures.offset c.args.third.now c.put-word-at-2.result c.if-buffer-needed.false c.put-word-at-2.ensures.text c.put-word-at-2.ensures.offset c.put-word.ensures.text;
+  text = three_words c.args.first.now c.args.second.now c.args.buffer.now c.put_word-at.result c.put_word-at.ensures.text c.put_word-at.ensures.offset c.args.third.now c.put_word-at-2.result c.if-buffer-needed.false c.put_word-at-2.ensures.text c.put_word-at-2.ensures.offset c.put_word.ensures.text;
 }

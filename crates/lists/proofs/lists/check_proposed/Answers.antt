@@ -12,11 +12,11 @@ use Rattle.lists.proofs.lists.check_proposed.Goals.{else-at-gt0-via-then-at-gt0+
 pub loop-at-init : goal.loop-at-init
 loop-at-init c = let xs = c.args.proposed.now in gather_none (proposed_mark xs) xs _ c.empty-marks.ensures
 
-pub returns-in-default : goal.returns-in-default
-returns-in-default c =
+pub returns-in_default : goal.returns-in_default
+returns-in_default c =
     let xs = c.args.proposed.now in
     let i = c.loop-at.at in
-    gather_stop (proposed_mark xs) xs i _ _ _ c.loop-at-test.true c.loop-at.invariant (proposed_high xs i (is_high xs i c.in-default.ensures))
+    gather_stop (proposed_mark xs) xs i _ _ _ c.loop-at-test.true c.loop-at.invariant (proposed_high xs i (is_high xs i c.in_default.ensures))
 
 pub returns-then-number-before : goal.returns-then-number-before
 returns-then-number-before c =

@@ -15,7 +15,7 @@ returns-in-Ok g c =
     let same : steps_line c.steps.result ≡ last_text steps (result_err (answered told c.args.outcome.now)) =
     ap steps_line c.steps.ensures.value ∙ ap (λ o. last_text steps (result_err (answered told o))) (sym c.in-Ok.is) in
     record {
-      answer = answer_of (steps_line c.steps.result) _ (length old) c.write-steps.result same c.write-steps.ensures.answer;
-      within = c.write-steps.ensures.within;
-      text = buffer_of (steps_line c.steps.result) _ old c.write-steps.new.buffer c.write-steps.result same c.write-steps.ensures.text;
+      answer = answer_of (steps_line c.steps.result) _ (length old) c.write_steps.result same c.write_steps.ensures.answer;
+      within = c.write_steps.ensures.within;
+      text = buffer_of (steps_line c.steps.result) _ old c.write_steps.new.buffer c.write_steps.result same c.write_steps.ensures.text;
     }

@@ -8,8 +8,8 @@ use Rattle.rows.proofs.row.check_marks.Goals as goal
 pub loop-k-init : goal.loop-k-init
 loop-k-init c = first_none (mark_check c.args.item c.args.at c.args.row.now)
 
-pub returns-then-pair-at-gt1023 : goal.returns-then-pair-at-gt1023
-returns-then-pair-at-gt1023 c =
+pub returns-then-pair_at-gt1023 : goal.returns-then-pair_at-gt1023
+returns-then-pair_at-gt1023 c =
     refused_at tt (mark_check c.args.item c.args.at c.args.row.now) c.loop-k.k (body_count c.args.row.now) _
     c.loop-k.invariant
     (refused_if _ _ (lt-ltb 1023 (mark_at c.args.row.now c.loop-k.k) (omega arith)))

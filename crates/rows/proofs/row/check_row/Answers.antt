@@ -15,35 +15,35 @@ row_answers item bs at from row here taken r made =
     second_answers (part bs at 32) tt (there item bs at 32) (row_check item at (part bs at 32)) row taken r
     (made ∙ ap₂ (λ a xs. passes tt (row_check item a xs)) here (passed row (part bs at 32) (there item bs at 32) taken).1)
 
-pub returns-in-err-row : goal.returns-in-err-row
-returns-in-err-row c =
+pub returns-in_err-row : goal.returns-in_err-row
+returns-in_err-row c =
     let bs = c.args.reader.now.bytes.now in
     let at = c.args.reader.now.at in
-    let p = err_from_is_err_and c.from-residual.result c.from-residual.ensures.1 in
+    let p = err_from_is_err_and c.from_residual.result c.from_residual.ensures.1 in
     rw (p.1, p.2) record {
-      answer = first_refused (part bs at 32) tt (there c.args.item bs at 32) (row_check c.args.item at (part bs at 32)) _ c.in-err-row.ensures.answer;
+      answer = first_refused (part bs at 32) tt (there c.args.item bs at 32) (row_check c.args.item at (part bs at 32)) _ c.in_err-row.ensures.answer;
       bytes = refl;
       at = refl;
     }
 
-pub returns-in-err-check-parts : goal.returns-in-err-check-parts
-returns-in-err-check-parts c =
-    let p = err_from_is_err_and c.from-residual-in-err-check-parts.result c.from-residual-in-err-check-parts.ensures.1 in
+pub returns-in_err-check_parts : goal.returns-in_err-check_parts
+returns-in_err-check_parts c =
+    let p = err_from_is_err_and c.from_residual-in_err-check_parts.result c.from_residual-in_err-check_parts.ensures.1 in
     rw (p.1, p.2) record {
       answer =
-          row_answers c.args.item c.args.reader.now.bytes.now c.args.reader.now.at c.at-at.result c.in-ok-row.row.now
-          c.at-at.ensures.value c.in-ok-row.ensures.answer _ c.in-err-check-parts.ensures;
+          row_answers c.args.item c.args.reader.now.bytes.now c.args.reader.now.at c.at-at.result c.in_ok-row.row.now
+          c.at-at.ensures.value c.in_ok-row.ensures.answer _ c.in_err-check_parts.ensures;
       bytes = refl;
       at = refl;
     }
 
 pub returns : goal.returns
 returns c =
-    let taken = c.in-ok-row.ensures in
+    let taken = c.in_ok-row.ensures in
     record {
       answer =
-          row_answers c.args.item c.args.reader.now.bytes.now c.args.reader.now.at c.at-at.result c.in-ok-row.row.now
-          c.at-at.ensures.value taken.answer (Ok tt) c.in-ok-check-parts.ensures;
+          row_answers c.args.item c.args.reader.now.bytes.now c.args.reader.now.at c.at-at.result c.in_ok-row.row.now
+          c.at-at.ensures.value taken.answer (Ok tt) c.in_ok-check_parts.ensures;
       bytes = taken.bytes;
       at = taken.at;
     }

@@ -4,16 +4,16 @@ use Rattle.refusals.specs.Checks.{passes}
 use Rattle.series.proofs.Movement.{row_refused, row_passed}
 use Rattle.series.proofs.check.check_series.Goals as goal
 
-pub returns-in-err-check-row : goal.returns-in-err-check-row
-returns-in-err-check-row c =
-    let p = err_from_is_err_and c.from-residual.result c.from-residual.ensures.1 in
+pub returns-in_err-check_row : goal.returns-in_err-check_row
+returns-in_err-check_row c =
+    let p = err_from_is_err_and c.from_residual.result c.from_residual.ensures.1 in
     rw (p.1, p.2)
     (row_refused c.args.row.now c.args.width c.args.count c.args.moving _ _ _ c.of.ensures c.new.ensures.bytes c.new.ensures.at (omega arith)
-    tt _ c.in-err-check-row.ensures.answer)
+    tt _ c.in_err-check_row.ensures.answer)
 
 pub returns : goal.returns
 returns c =
-    c.check-movement.ensures
+    c.check_movement.ensures
     ∙ sym (ap (passes tt)
     (row_passed c.args.row.now c.args.width c.args.count c.args.moving _ _ _ c.of.ensures c.new.ensures.bytes c.new.ensures.at (omega arith)
-    c.in-ok-check-row.ensures.answer))
+    c.in_ok-check_row.ensures.answer))

@@ -25,8 +25,8 @@ returns-in-GoBack g c =
     record {
       settled = search rules;
       stands = λ ls same.
-          after_return ls (standing c.args.review.now.steps) (standing c.go-back.new.self.steps)
-          c.in-GoBack.n (answered back_told c.go-back.result) c.go-back.ensures.answer c.go-back.ensures.stands same
-          ∙ ap (λ ask. steps_by (then ls ask (went_back (answered back_told c.go-back.result)))) (sym (ap ask_of c.in-GoBack.is));
+          after_return ls (standing c.args.review.now.steps) (standing c.go_back.new.self.steps)
+          c.in-GoBack.n (answered back_told c.go_back.result) c.go_back.ensures.answer c.go_back.ensures.stands same
+          ∙ ap (λ ask. steps_by (then ls ask (went_back (answered back_told c.go_back.result)))) (sym (ap ask_of c.in-GoBack.is));
       book = search rules;
     }

@@ -16,7 +16,7 @@ loop-i-preserved g c =
     let now = c.loop-i.exchanges in
     let i = c.loop-i.i in
     let before = get_or now i c.index-exchanges-i.result in
-    let heard = c.hear-one-answer in
+    let heard = c.hear_one-answer in
     let inside : i < length now = omega (arith, c.loop-i.auto.exchanges) in (
       heard.ensures.book ∙ c.loop-i.invariant.0,
       subst (λ es. Front rules (standing review.steps) entry es (i + 1) (standing heard.new.review.steps))

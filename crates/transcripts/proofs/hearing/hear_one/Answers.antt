@@ -14,8 +14,8 @@ returns g c =
       settled =
           subst₂
           (λ before after. Settles (g.B.Book.rules review.book) (standing review.steps) before (ask_of exchange.call) (reply_of c.answer.result) after)
-          c.as-mut-slice.ensures.value
-          (sym (take_at words (drop (length words) exchange.words.items) exchange.words.len (c.answer.auto.words ∙ c.as-mut-slice.ensures.len)))
+          c.as_mut_slice.ensures.value
+          (sym (take_at words (drop (length words) exchange.words.items) exchange.words.len (c.answer.auto.words ∙ c.as_mut_slice.ensures.len)))
           c.answer.ensures.settled;
       stands = c.answer.ensures.stands;
       call = search rules;

@@ -4,5 +4,5 @@ use Rattle.rows.proofs.Sound.{row_whole}
 use Rattle.bookcheck.specs.Layout.{rows_from}
 use Rattle.bookfile.proofs.file_book.FileBook.row.Goals as goal
 
-pub row-in-requires : goal.row-in-requires
-row-in-requires c = row_whole Rules c.args.self.now.bytes.now rows_from c.args.self.now.count (none_from _ c.args.self.now.checked) c.args.n c.requires
+pub row_in-requires : goal.row_in-requires
+row_in-requires c = row_whole Rules c.args.self.now.bytes.now rows_from c.args.self.now.count (none_from _ c.args.self.now.checked) c.args.n c.requires

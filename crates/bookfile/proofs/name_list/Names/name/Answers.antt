@@ -7,16 +7,16 @@ use Rattle.bookfile.proofs.Asked.{name_told}
 use Rattle.bookcheck.proofs.Passed.{place_within, place_short}
 use Rattle.bookfile.proofs.name_list.Names.name.Goals as goal
 
-pub name-at-requires : goal.name-at-requires
-name-at-requires c =
+pub name_at-requires : goal.name_at-requires
+name_at-requires c =
     place_within c.args.self.now.bytes.now c.args.self.now.from c.args.self.now.count (none_from _ c.args.self.now.checked)
     c.number-n.result c.if-n-self.true c.place.result c.place.ensures
 
 pub returns-then-n-self : goal.returns-then-n-self
 returns-then-n-self c = record {
   value =
-      name_told c.args.self.now.bytes.now c.args.self.now.from c.args.self.now.count c.number-n.result c.place.result c.name-at.result.now
-      c.place.ensures c.name-at.ensures.value c.if-n-self.true
+      name_told c.args.self.now.bytes.now c.args.self.now.from c.args.self.now.count c.number-n.result c.place.result c.name_at.result.now
+      c.place.ensures c.name_at.ensures.value c.if-n-self.true
       ∙ ap (slice_get (names_in c.args.self.now.bytes.now c.args.self.now.from c.args.self.now.count)) c.number-n.ensures.value;
   short =
       omega (arith, place_short c.args.self.now.bytes.now c.args.self.now.from c.args.self.now.count (none_from _ c.args.self.now.checked) c.number-n.result c.if-n-self.true c.place.result c.place.ensures);

@@ -9,13 +9,13 @@ loop-k-init c = sym (name_at_none c.args.self.now.bytes.now c.args.self.now.from
 
 pub bounds-self-place : goal.bounds-self-place
 bounds-self-place c =
-    let below : c.loop-k.-k < c.args.self.now.count = omega arith in
-    omega (arith, place_within c.args.self.now.bytes.now c.args.self.now.from c.args.self.now.count (none_from _ c.args.self.now.checked) c.loop-k.-k below c.loop-k.place c.loop-k.invariant)
+    let below : c.loop-k._k < c.args.self.now.count = omega arith in
+    omega (arith, place_within c.args.self.now.bytes.now c.args.self.now.from c.args.self.now.count (none_from _ c.args.self.now.checked) c.loop-k._k below c.loop-k.place c.loop-k.invariant)
 
-pub overflow-add-place-in-loop-k : goal.overflow-add-place-in-loop-k
-overflow-add-place-in-loop-k c =
-    let below : c.loop-k.-k < c.args.self.now.count = omega arith in
-    omega (arith, place_within c.args.self.now.bytes.now c.args.self.now.from c.args.self.now.count (none_from _ c.args.self.now.checked) c.loop-k.-k below c.loop-k.place c.loop-k.invariant)
+pub overflow_add-place-in-loop-k : goal.overflow_add-place-in-loop-k
+overflow_add-place-in-loop-k c =
+    let below : c.loop-k._k < c.args.self.now.count = omega arith in
+    omega (arith, place_within c.args.self.now.bytes.now c.args.self.now.from c.args.self.now.count (none_from _ c.args.self.now.checked) c.loop-k._k below c.loop-k.place c.loop-k.invariant)
 
 pub loop-k-preserved : goal.loop-k-preserved
-loop-k-preserved c = place_more c.args.self.now.bytes.now c.args.self.now.from c.loop-k.-k c.args.n c.loop-k.place c.loop-k.invariant _ refl
+loop-k-preserved c = place_more c.args.self.now.bytes.now c.args.self.now.from c.loop-k._k c.args.n c.loop-k.place c.loop-k.invariant _ refl

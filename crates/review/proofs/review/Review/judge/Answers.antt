@@ -14,15 +14,15 @@ returns g c =
     let steps = standing self.steps in
     let said = c.args.said.now in
     let proposed = c.args.proposed.now in
-    let s = passed (members c.in-ok-said.said) (among said) (said_check said) c.in-ok-said.ensures in
-    let m = passed (members c.in-ok-marks.marks) (among proposed) (proposed_check proposed) c.in-ok-marks.ensures in
+    let s = passed (members c.in_ok-said.said) (among said) (said_check said) c.in_ok-said.ensures in
+    let m = passed (members c.in_ok-marks.marks) (among proposed) (proposed_check proposed) c.in_ok-marks.ensures in
     let room : length steps < 64 = omega (arith, c.len-standing.ensures.value) in
-    let same = c.in-ok-compare.ensures in
+    let same = c.in_ok-compare.ensures in
     record {
       judged =
           judged_passes (g.B.Book.rules self.book) steps said proposed _ (lists_pass steps said proposed room s.0 m.0)
           (step_passes (g.B.Book.rules self.book) steps said proposed
-          (members c.in-ok-said.said) (members c.in-ok-marks.marks) (members c.given.result) (members c.close-closure.result.marks)
+          (members c.in_ok-said.said) (members c.in_ok-marks.marks) (members c.given.result) (members c.close-closure.result.marks)
           (c.len-standing.result + 1) c.close-closure.result.depth c.findings.result
           s.1 m.1 c.given.ensures c.close-closure.ensures.closes same.0 same.1
           (ap (λ n. n + 1) c.len-standing.ensures.value)

@@ -3,8 +3,8 @@ use Rattle.steps.specs.Standing.{standing}
 use Rattle.review.proofs.Settling.{settled}
 use Rattle.review.proofs.review.Review.propose.Goals as goal
 
-pub returns-in-err-passed : goal.returns-in-err-passed
-returns-in-err-passed g c =
+pub returns-in_err-passed : goal.returns-in_err-passed
+returns-in_err-passed g c =
     let self = c.args.self.now in
     record {
       judged = search rules;

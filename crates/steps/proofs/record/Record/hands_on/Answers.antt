@@ -5,7 +5,7 @@ use Rattle.marks.proofs.Held.{held_past}
 use Rattle.norms.specs.Steps.{handed_on}
 use Rattle.steps.proofs.Handing.{hand_hit, hand_miss, hand_all}
 use Rattle.steps.proofs.record.Record.hands_on.Goals as goal
-use Rattle.steps.proofs.record.Record.hands_on.Goals.{in-Some+then-hands-on-of, in-Some+else-hands-on-of, in-default}
+use Rattle.steps.proofs.record.Record.hands_on.Goals.{in-Some+then-hands_on_of, in-Some+else-hands_on_of, in_default}
 
 pub loop-i-preserved : goal.loop-i-preserved
 loop-i-preserved c =
@@ -13,15 +13,15 @@ loop-i-preserved c =
     let S = members c.loop-i.handed in
     let i = c.loop-i.i in
     elim c.match-new.branch [
-      | in-Some+then-hands-on-of w ↦ λ m.
+      | in-Some+then-hands_on_of w ↦ λ m.
           ap (λ h. members h m) w.handed-is
           ∙ ap (λ f. f m) w.insert.ensures
           ∙ ap (λ n. with_mark n S m) (w.mark.ensures ∙ ap (λ n. mark n carried) w.in-Some.ensures)
-          ∙ hand_hit M S i c.loop-i.invariant (ap (λ n. handed_on M (mark n carried)) (sym w.in-Some.ensures) ∙ sym w.hands-on-of.ensures ∙ w.if-hands-on-of.true) m
-      | in-Some+else-hands-on-of w ↦ λ m.
+          ∙ hand_hit M S i c.loop-i.invariant (ap (λ n. handed_on M (mark n carried)) (sym w.in-Some.ensures) ∙ sym w.hands_on_of.ensures ∙ w.if-hands_on_of.true) m
+      | in-Some+else-hands_on_of w ↦ λ m.
           ap (λ h. members h m) w.handed-is
-          ∙ hand_miss M S i c.loop-i.invariant (ap (λ n. handed_on M (mark n carried)) (sym w.in-Some.ensures) ∙ sym w.hands-on-of.ensures ∙ w.if-hands-on-of.false) m
-      | in-default w ↦ absurd (omega (arith, w.in-default.ensures))
+          ∙ hand_miss M S i c.loop-i.invariant (ap (λ n. handed_on M (mark n carried)) (sym w.in-Some.ensures) ∙ sym w.hands_on_of.ensures ∙ w.if-hands_on_of.false) m
+      | in_default w ↦ absurd (omega (arith, w.in_default.ensures))
     ]
 
 pub returns : goal.returns

@@ -7,6 +7,6 @@ use Rattle.steps.proofs.table.Table.inherited.Goals as goal
 pub returns : goal.returns
 returns c =
     let r = c.index-self-self in
-    c.hands-on.ensures
+    c.hands_on.ensures
     ∙ ap (λ x. handed_on (members x.marks)) (sym r.is)
     ∙ inherited_standing c.args.self.now r.result c.if-self-eq0.false r.is

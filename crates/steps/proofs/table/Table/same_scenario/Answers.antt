@@ -11,6 +11,6 @@ pub returns-else-self-other : goal.returns-else-self-other
 returns-else-self-other c =
     (λ _. same_said c.args.self.now c.args.other.now c.loop-step.step c.if-self-other.false c.loop-step-test.false c.loop-step.invariant, λ _. refl)
 
-pub returns-else-not-same-marks : goal.returns-else-not-same-marks
-returns-else-not-same-marks c =
+pub returns-else-not-same_marks : goal.returns-else-not-same_marks
+returns-else-not-same_marks c =
     (λ _. same_said c.args.self.now c.args.other.now _ c.if-self-other.false (omega arith) (below_more _ _ c.loop-step.invariant (search rules)), λ _. refl)

@@ -5,18 +5,18 @@ use Rattle.marks.specs.Words.{members}
 use Rattle.steps.proofs.Comparing.{told_none, same_members, none_lacks}
 use Rattle.steps.proofs.table.comparing.same_marks.Goals as goal
 
-pub returns-then-is-none : goal.returns-then-is-none
-returns-then-is-none c =
+pub returns-then-is_none : goal.returns-then-is_none
+returns-then-is_none c =
     let a = c.args.a.now in
     let b = c.args.b.now in
-    let first = told_none _ (beyond (members a) (members b)) c.is-none.result c.lowest-beyond.ensures c.is-none.ensures in
+    let first = told_none _ (beyond (members a) (members b)) c.is_none.result c.lowest_beyond.ensures c.is_none.ensures in
     let second =
-    told_none _ (beyond (members b) (members a)) c.is-none-then-is-none.result c.lowest-beyond-then-is-none.ensures c.is-none-then-is-none.ensures in
-    (λ none. same_members a b (first.0 c.if-is-none.true) (second.0 none), λ same. second.1 (none_lacks b a (sym same)))
+    told_none _ (beyond (members b) (members a)) c.is_none-then-is_none.result c.lowest_beyond-then-is_none.ensures c.is_none-then-is_none.ensures in
+    (λ none. same_members a b (first.0 c.if-is_none.true) (second.0 none), λ same. second.1 (none_lacks b a (sym same)))
 
-pub returns-else-is-none : goal.returns-else-is-none
-returns-else-is-none c =
+pub returns-else-is_none : goal.returns-else-is_none
+returns-else-is_none c =
     let a = c.args.a.now in
     let b = c.args.b.now in
-    let first = told_none _ (beyond (members a) (members b)) c.is-none.result c.lowest-beyond.ensures c.is-none.ensures in
-    (λ none. absurd (both_ways _ c.if-is-none.false none), λ same. first.1 (none_lacks a b same))
+    let first = told_none _ (beyond (members a) (members b)) c.is_none.result c.lowest_beyond.ensures c.is_none.ensures in
+    (λ none. absurd (both_ways _ c.if-is_none.false none), λ same. first.1 (none_lacks a b same))

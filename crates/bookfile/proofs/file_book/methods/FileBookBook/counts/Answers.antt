@@ -7,7 +7,7 @@ use Rattle.bookfile.proofs.file_book.methods.FileBookBook.counts.Goals as goal
 pub returns-then-n-self : goal.returns-then-n-self
 returns-then-n-self c =
     counts_told c.args.self.now.bytes.now rows_from c.args.self.now.count c.args.n c.row-row.result.now _ _
-    c.row-row.ensures c.byte-at.ensures.value c.byte-at-then-n-self.ensures.value c.if-n-self.true
+    c.row-row.ensures c.byte_at.ensures.value c.byte_at-then-n-self.ensures.value c.if-n-self.true
 
 pub returns-else-n-self : goal.returns-else-n-self
 returns-else-n-self c = counts_past (rule_in c.args.self.now.bytes.now rows_from) c.args.self.now.count c.args.n c.if-n-self.false

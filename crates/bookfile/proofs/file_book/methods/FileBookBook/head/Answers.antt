@@ -9,8 +9,8 @@ use Rattle.bookfile.proofs.file_book.methods.FileBookBook.head.Goals as goal
 
 pub returns-then-n-self : goal.returns-then-n-self
 returns-then-n-self c =
-    head_told c.args.self.now.bytes.now rows_from c.args.self.now.count c.args.n c.row.result.now c.new.result c.pair-at.result
-    c.row.ensures c.pair-at.ensures c.new.ensures
+    head_told c.args.self.now.bytes.now rows_from c.args.self.now.count c.args.n c.row.result.now c.new.result c.pair_at.result
+    c.row.ensures c.pair_at.ensures c.new.ensures
     (head_low_in Rules c.args.self.now.bytes.now rows_from c.args.self.now.count (none_from _ c.args.self.now.checked) c.args.n c.if-n-self.true)
     c.if-n-self.true
 

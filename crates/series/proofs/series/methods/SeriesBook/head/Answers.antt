@@ -4,8 +4,8 @@ use Rattle.series.specs.Moved.{series_rule}
 use Rattle.series.proofs.Asked.{low_at, head_told}
 use Rattle.series.proofs.series.methods.SeriesBook.head.Goals as goal
 
-pub overflow-cast-moved : goal.overflow-cast-moved
-overflow-cast-moved c =
+pub overflow_cast-moved : goal.overflow_cast-moved
+overflow_cast-moved c =
     let s = c.args.self.now in
     omega (arith, low_at s.row.now s.width s.count s.moving c.args.n (omega arith) s.checked 0 (omega arith))
 

@@ -9,8 +9,8 @@ loop-aside-init g c =
     let whole = rest_length (g.B.Book.rules s.book) s.numbers.now s.rising in
     omega (arith, ap (below s.numbers.now) c.len-all.ensures, c.len-all.ensures)
 
-pub overflow-sub-left : goal.overflow-sub-left
-overflow-sub-left g c =
+pub overflow_sub-left : goal.overflow_sub-left
+overflow_sub-left g c =
     let ns = c.args.self.now.numbers.now in
     omega (arith, below_one ns c.loop-aside.aside-index c.loop-aside-test.true c.len-all.result (omega arith))
 
