@@ -1,6 +1,6 @@
--- The check passes exactly where the bytes are the file of some well_formed rules and names. Assumes nothing.
+-- The check passes exactly where the bytes are the file of some well-formed rules and names. Assumes nothing.
 use Rattle.std.proofs.Common.{◌≡◌, ℕ, zero, suc, ◌+◌, ◌<◌, ◌≤◌, true, false, ◌↔◌, List, [], length, get_or, is_ok, None, Result, sym, refl, ◌∙◌, subst, arith}
-use Rattle.std.specs.List.{AllByRecursion as All}
+use Rattle.std.specs.List.{AllByRecursion}
 use Rattle.std.specs.Str.{bytes_eq}
 use Rattle.std.proofs.lemmas.List.{length-take, length-drop}
 use Rattle.std.proofs.lemmas.List.FromFn.{length-map-range_with_len, get_or-map-range_with_len}
@@ -78,7 +78,7 @@ module _ (bs : List ℕ) (passed : book_check bs ≡ None) where
   named_here : (n : ℕ) → n < rule_count bs → Named (name_count bs) (rule_in bs rows_from n)
   named_here n h = (
     leb-false _ _ (test_failed _ _ (before_passed _ _ (uses_passed n h))),
-    subst (All (λ m. instance m < name_count bs)) (sym (body_marks (row_in bs rows_from n)))
+    subst (AllByRecursion (λ m. instance m < name_count bs)) (sym (body_marks (row_in bs rows_from n)))
         (All-from_get_or (λ m. instance m < name_count bs) (marks (row_in bs rows_from n)) 0
         (λ k below.
         let in_body : k < body_count (row_in bs rows_from n) = omega (arith, length_marks (row_in bs rows_from n)) in
@@ -98,7 +98,7 @@ module _ (bs : List ℕ) (passed : book_check bs ≡ None) where
   name_is : (n : ℕ) → n < name_count bs → get_or (file_names bs) n [] ≡ name_in bs (names_from bs) n
   name_is n h = get_or-map-range_with_len (name_in bs (names_from bs)) 0 (name_count bs) n n [] h (omega arith)
 
-  all_named : All (Named (length (file_names bs))) (file_rules bs)
+  all_named : AllByRecursion (Named (length (file_names bs))) (file_rules bs)
   all_named =
       All-from_get_or (Named (length (file_names bs))) (file_rules bs) (rule_in bs rows_from 0)
       (λ n h.

@@ -1,6 +1,6 @@
 -- What is written of rules and names is read back. Assumes nothing.
 use Rattle.std.proofs.Common.{◌≡◌, ℕ, zero, suc, ◌+◌, ◌*◌, ◌<◌, ◌≤◌, List, [], ◌∷◌, ◌++◌, length, get_or, take, drop, sym, refl, ap, ◌∙◌, add-zero, arith}
-use Rattle.std.specs.List.{flat_map, AllByRecursion as All}
+use Rattle.std.specs.List.{flat_map, AllByRecursion}
 use Rattle.std.proofs.lemmas.List.{append_assoc, length-append, length-drop, take_at, drop_at, drop-drop, drop_more, drop_all, get_or-drop}
 use Rattle.std.proofs.ByRecursion.{All-get_or}
 use Rattle.norms.specs.Programs.{Rule}
@@ -19,7 +19,7 @@ pub blank : Rule ℕ
 blank = record { head = 0; required = []; barred = [] }
 
 -- the rows after the first n
-rows_left : (rules : List (Rule ℕ)) (tail : List ℕ) → All SoundRule rules → (n : ℕ) → n ≤ length rules → drop (32 * n) (flat_map written_row rules ++ tail) ≡ flat_map written_row (drop n rules) ++ tail
+rows_left : (rules : List (Rule ℕ)) (tail : List ℕ) → AllByRecursion SoundRule rules → (n : ℕ) → n ≤ length rules → drop (32 * n) (flat_map written_row rules ++ tail) ≡ flat_map written_row (drop n rules) ++ tail
 rows_left rules tail sound zero h = refl
 rows_left [] tail sound (suc n) h = absurd (omega arith)
 rows_left (r ∷ rules) tail sound (suc n) h =
@@ -104,7 +104,7 @@ module _ (bs : List ℕ) (from : ℕ) (names : List (List ℕ)) (start : drop fr
       omega arith
 
 -- the file of rules and names
-module _ (rules : List (Rule ℕ)) (names : List (List ℕ)) (sound : All SoundRule rules) where
+module _ (rules : List (Rule ℕ)) (names : List (List ℕ)) (sound : AllByRecursion SoundRule rules) where
   pub rules_back : rule_count (written rules names) ≡ length rules
   rules_back = omega arith
 

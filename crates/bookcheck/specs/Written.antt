@@ -7,10 +7,10 @@
 --     Named n r                  the rule speaks only of the first n instances
 --     WellFormed rules names     at most 512 rules within the bounds of a rule, at most 128 fit names, no two of
 --                                them the same, and every rule speaks only of instances with a name
---     FileOf rules names bs      the bytes are the file of these rules and names, which are well_formed
+--     FileOf rules names bs      the bytes are the file of these rules and names, which are well-formed
 --     BookFile bs                the bytes are the file of some rules and names
 use Rattle.std.specs.Prelude.{◌≡◌, ℕ, ◌<◌, ◌≤◌, List, [], ◌∷◌, ◌++◌, length, ◌≢◌, slice_index_or}
-use Rattle.std.specs.List.{flat_map, AllByRecursion as All}
+use Rattle.std.specs.List.{flat_map, AllByRecursion}
 use Rattle.marks.specs.Numbers.{instance}
 use Rattle.norms.specs.Programs.{Rule}
 use Rattle.norms.specs.Rules.{SoundRule, body}
@@ -32,21 +32,21 @@ pub record Fit (b : ℕ) : Type 0 where
 pub record FitName (name : List ℕ) : Type 0 where
   pub some : 1 ≤ length name
   pub short : length name ≤ 32
-  pub fit : All Fit name
+  pub fit : AllByRecursion Fit name
 
 abbrev pub Apart : List (List ℕ) → Type 0
 Apart names = (i j : ℕ) → i < j → j < length names → slice_index_or names i [] ≢ slice_index_or names j []
 
 abbrev pub Named : ℕ → Rule ℕ → Type 0
-Named n r = All (λ m. instance m < n) (r.head ∷ body r)
+Named n r = AllByRecursion (λ m. instance m < n) (r.head ∷ body r)
 
 pub record WellFormed (rules : List (Rule ℕ)) (names : List (List ℕ)) : Type 0 where
   pub few_rules : length rules ≤ 512
-  pub sound : All SoundRule rules
+  pub sound : AllByRecursion SoundRule rules
   pub few_names : length names ≤ 128
-  pub fit : All FitName names
+  pub fit : AllByRecursion FitName names
   pub apart : Apart names
-  pub named : All (Named (length names)) rules
+  pub named : AllByRecursion (Named (length names)) rules
 
 pub record FileOf (rules : List (Rule ℕ)) (names : List (List ℕ)) (bs : List ℕ) : Type 0 where
   pub well_formed : WellFormed rules names

@@ -1,12 +1,10 @@
 -- What rows and names answer to the questions of a book. Assumes nothing.
-use Rattle.std.proofs.Common.{◌≡◌, ℕ, ◌+◌, ◌<◌, ◌≤◌, List, map, length, get_or, take, drop, Some, None, Option, sym, refl, ap, ◌∙◌, arith, MatchOption}
+use Rattle.std.proofs.Common.{◌≡◌, ℕ, ◌+◌, ◌<◌, ◌≤◌, List, length, get_or, take, drop, Some, None, Option, sym, ap, ◌∙◌, arith, MatchOption}
 use Rattle.std.specs.List.{slice_get}
-use Rattle.std.proofs.lemmas.List.{length-take, length-drop}
 use Rattle.marks.specs.declared.mark.Mark.{Mark}
-use Rattle.norms.specs.Programs.{Rule}
 use Rattle.books.specs.Asked.{head_of, counts_of, body_of, numbered}
 use Rattle.books.proofs.Counted.{nth_counted, nth_counted_past, made_mark, head_is, counts_are, body_is}
-use Rattle.rows.specs.Rows.{head, required_count, barred_count, body_count, mark_at, marks, rule_of}
+use Rattle.rows.specs.Rows.{head, required_count, barred_count, body_count, mark_at, marks}
 use Rattle.rows.specs.Tables.{row_in, rule_in, rules_in}
 use Rattle.reading.specs.Reads.{part}
 use Rattle.bookcheck.specs.Layout.{name_at, name_in, names_in}

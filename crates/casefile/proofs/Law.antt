@@ -1,4 +1,4 @@
--- A case file is read to its end exactly where it is the file of some well_formed steps. Assumes nothing.
+-- A case file is read to its end exactly where it is the file of some well-formed steps. Assumes nothing.
 use Rattle.std.proofs.Common.{◌≡◌, ℕ, ◌<◌, true, ◌↔◌, List, get_or, is_ok, None, Result, sym, ap, ◌∙◌, subst}
 use Rattle.refusals.specs.Telling.{answered}
 use Rattle.refusals.specs.Checks.{passes}

@@ -1,6 +1,6 @@
--- What is written of well_formed steps passes, and is read back. Assumes nothing.
+-- What is written of well-formed steps passes, and is read back. Assumes nothing.
 use Rattle.std.proofs.Common.{◌≡◌, ℕ, ◌+◌, ◌*◌, ◌/◌, ◌%◌, List, [], ◌∷◌, ◌++◌, length, get_or, take, drop, None, sym, refl, ap, ◌∙◌, ap₂, add-zero, arith}
-use Rattle.std.specs.List.{flat_map, AllByRecursion as All}
+use Rattle.std.specs.List.{flat_map, AllByRecursion}
 use Rattle.std.proofs.lemmas.List.{append_assoc, length-append, length-drop, take_at, drop_at, drop-drop, get_or-drop}
 use Rattle.std.proofs.lemmas.Bool.{le-ltb}
 use Rattle.refusals.specs.declared.Item.{Item}
@@ -74,7 +74,7 @@ module _ (bs : List ℕ) (i : ℕ) (s : List ℕ × List ℕ) (rest : List ℕ) 
 
 -- the steps stand at i, and nothing comes after them
 module _ (bs : List ℕ) where
-  steps_accepted : (steps : List (List ℕ × List ℕ)) → All FitStep steps → (k i : ℕ) → drop i bs ≡ flat_map written_step steps → end_from bs (length steps) k i ≡ None
+  steps_accepted : (steps : List (List ℕ × List ℕ)) → AllByRecursion FitStep steps → (k i : ℕ) → drop i bs ≡ flat_map written_step steps → end_from bs (length steps) k i ≡ None
   unfolding end_from
   steps_accepted [] fit k i left = passed_if _ _ (le-ltb i (length bs) (let all = length-drop i bs in let none = ap length left in omega arith))
   steps_accepted (s ∷ steps) fit k i left =
@@ -82,7 +82,7 @@ module _ (bs : List ℕ) where
       (step_accepted bs i s (flat_map written_step steps) left k fit.0)
       (steps_accepted steps fit.1 (k + 1) (after_step bs i) (after_left bs i s (flat_map written_step steps) left))
 
-  steps_back : (steps : List (List ℕ × List ℕ)) → All FitStep steps → (k i : ℕ) → drop i bs ≡ flat_map written_step steps → steps_from bs (length steps) k i ≡ steps
+  steps_back : (steps : List (List ℕ × List ℕ)) → AllByRecursion FitStep steps → (k i : ℕ) → drop i bs ≡ flat_map written_step steps → steps_from bs (length steps) k i ≡ steps
   unfolding steps_from
   steps_back [] fit k i left = refl
   steps_back (s ∷ steps) fit k i left =

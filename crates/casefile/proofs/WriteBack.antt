@@ -1,6 +1,6 @@
--- A file that passes is what is written of the steps that are read from it, and these are well_formed. Assumes nothing.
+-- A file that passes is what is written of the steps that are read from it, and these are well-formed. Assumes nothing.
 use Rattle.std.proofs.Common.{◌≡◌, ℕ, zero, suc, ◌+◌, ◌*◌, ◌^◌, ◌<◌, ◌≤◌, List, ◌∷◌, ◌++◌, length, get_or, drop, None, sym, refl, ap, ◌∙◌, subst, ap₂, arith}
-use Rattle.std.specs.List.{flat_map, AllByRecursion as All}
+use Rattle.std.specs.List.{flat_map, AllByRecursion}
 use Rattle.std.proofs.lemmas.List.{append_assoc, length-take, length-drop, drop_more, drop_all}
 use Rattle.std.proofs.lemmas.List.FromFn.{length-map-range_with_len}
 use Rattle.std.proofs.ByRecursion.{All-map, All-from_get_or}
@@ -17,7 +17,7 @@ use Rattle.casefile.proofs.Marks.{bytes_back}
 -- the n steps that stand at i, where nothing comes after them
 record StepsAt (bs : List ℕ) (n i : ℕ) (steps : List (List ℕ × List ℕ)) : Type 0 where
   count : length steps ≡ n
-  fit : All FitStep steps
+  fit : AllByRecursion FitStep steps
   left : drop i bs ≡ flat_map written_step steps
 
 module _ (bs : List ℕ) (small : (i : ℕ) → get_or bs i 0 < 256) where

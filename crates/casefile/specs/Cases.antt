@@ -15,7 +15,7 @@
 --                             refused, or else of bytes that are left over, or nothing
 --     case_steps bs           the lists of the steps of a case file, up to the first that is refused
 --     case_end bs             how a case file ends
-use Rattle.std.specs.Prelude.{ℕ, zero, suc, ◌+◌, ◌*◌, ◌/◌, List, [], ◌∷◌, map, length, Some, None, Option, slice_index}
+use Rattle.std.specs.Prelude.{ℕ, zero, suc, ◌+◌, ◌*◌, ◌/◌, List, [], ◌∷◌, map, length, Option, slice_index}
 use Rattle.std.specs.List.{range_with_len}
 use Rattle.refusals.specs.declared.Told.{Told}
 use Rattle.refusals.specs.declared.Item.{Item}

@@ -5,10 +5,10 @@
 --     FitList ms           at most 1,024 marks, each of which fits two bytes
 --     FitStep s            both lists of the step are such lists
 --     WellFormed steps     at most 64 such steps
---     FileOf steps bs      the bytes are the file of these steps, which are well_formed
+--     FileOf steps bs      the bytes are the file of these steps, which are well-formed
 --     CaseFile bs          the bytes are the file of some steps
 use Rattle.std.specs.Prelude.{◌≡◌, ℕ, ◌^◌, ◌<◌, ◌≤◌, List, ◌∷◌, ◌++◌, length}
-use Rattle.std.specs.List.{flat_map, AllByRecursion as All}
+use Rattle.std.specs.List.{flat_map, AllByRecursion}
 use Rattle.reading.specs.Reads.{byte_pair}
 
 abbrev pub written_list : List ℕ → List ℕ
@@ -22,14 +22,14 @@ written_case steps = length steps ∷ flat_map written_step steps
 
 pub record FitList (ms : List ℕ) : Type 0 where
   pub few : length ms ≤ 1024
-  pub small : All (λ m. m < 2 ^ 16) ms
+  pub small : AllByRecursion (λ m. m < 2 ^ 16) ms
 
 abbrev pub FitStep : List ℕ × List ℕ → Type 0
 FitStep s = FitList s.0 × FitList s.1
 
 pub record WellFormed (steps : List (List ℕ × List ℕ)) : Type 0 where
   pub few_steps : length steps ≤ 64
-  pub fit : All FitStep steps
+  pub fit : AllByRecursion FitStep steps
 
 pub record FileOf (steps : List (List ℕ × List ℕ)) (bs : List ℕ) : Type 0 where
   pub well_formed : WellFormed steps

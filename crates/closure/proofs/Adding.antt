@@ -1,6 +1,6 @@
 -- What is added rule by rule. Assumes nothing.
 use Rattle.std.proofs.Common.{◌≡◌, ℕ, ◌+◌, ◌⊎◌, List, length, Some, sym, ap, ◌∙◌, subst, inl, inr, ⊎_elim, arith}
-use Rattle.std.specs.List.{ContainsAt as Has}
+use Rattle.std.specs.List.{ContainsAt}
 use Rattle.std.proofs.iter.runs.Lists.{same_Some}
 use Rattle.std.proofs.lemmas.Option.{slice_get-get_or}
 use Rattle.std.proofs.lemmas.Bool.{cases_eq}
@@ -47,15 +47,15 @@ module _ (M S : Set ℕ) where
       (adds_both (Below n Q) (Q n) T U V before here)
 
 -- the rules of a list are those at its places
-pub place_has : (rules : List (Rule ℕ)) (r : Rule ℕ) → Below (length rules) (Place rules) r → Has rules r
+pub place_has : (rules : List (Rule ℕ)) (r : Rule ℕ) → Below (length rules) (Place rules) r → ContainsAt rules r
 place_has rules r (k, below, at) = (k, below, λ d. same_Some _ _ (sym (slice_get-get_or rules k d below) ∙ at))
 
-pub has_place : (rules : List (Rule ℕ)) (r : Rule ℕ) → Has rules r → Below (length rules) (Place rules) r
+pub has_place : (rules : List (Rule ℕ)) (r : Rule ℕ) → ContainsAt rules r → Below (length rules) (Place rules) r
 has_place rules r (k, below, at) = (k, below, slice_get-get_or rules k r below ∙ ap Some (at r))
 
-pub adds_all_places : (M S : Set ℕ) (rules : List (Rule ℕ)) (n : ℕ) (T U : Set ℕ) → n ≡ length rules → Adds (Below n (Place rules)) M S T U → Adds (Has rules) M S T U
+pub adds_all_places : (M S : Set ℕ) (rules : List (Rule ℕ)) (n : ℕ) (T U : Set ℕ) → n ≡ length rules → Adds (Below n (Place rules)) M S T U → Adds (ContainsAt rules) M S T U
 adds_all_places M S rules n T U all adds =
-    adds_like M S (Below (length rules) (Place rules)) (Has rules) T U (place_has rules) (has_place rules) (subst (λ k. Adds (Below k (Place rules)) M S T U) all adds)
+    adds_like M S (Below (length rules) (Place rules)) (ContainsAt rules) T U (place_has rules) (has_place rules) (subst (λ k. Adds (Below k (Place rules)) M S T U) all adds)
 
 -- the two frame rules of one more instance
 pub adds_frame_more : (M S : Set ℕ) (n i : ℕ) (T U V W : Set ℕ)

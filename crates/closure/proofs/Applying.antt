@@ -1,8 +1,8 @@
 -- A rule applies exactly when the book's answers say so. Assumes nothing.
-use Rattle.std.proofs.Common.{◌≡◌, ℕ, ◌+◌, ◌-◌, true, false, List, ◌++◌, length, Some, None, Option, sym, refl, ap, ◌∙◌, subst, arith}
+use Rattle.std.proofs.Common.{◌≡◌, ℕ, ◌+◌, ◌-◌, true, false, List, ◌++◌, length, Some, sym, ap, ◌∙◌, subst, arith}
 use Rattle.std.specs.List.{slice_get}
 use Rattle.std.specs.Option.{option_map}
-use Rattle.std.proofs.iter.runs.Lists.{none-some, same_Some, nth_left, nth_right}
+use Rattle.std.proofs.iter.runs.Lists.{same_Some, nth_left, nth_right}
 use Rattle.marks.specs.Sets.{Set, ◌∈◌}
 use Rattle.norms.specs.Programs.{Rule, Stays, Met}
 use Rattle.norms.proofs.Places.{all_nth, all_from_nth}

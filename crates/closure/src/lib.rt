@@ -2,7 +2,7 @@
 #![tactic(auto)]
 
 ghost use Rattle.std.specs.Prelude.{ℕ, ◌≤◌, Decides};
-ghost use Rattle.std.specs.List.{ContainsAt as Has};
+ghost use Rattle.std.specs.List.{ContainsAt};
 ghost use Rattle.marks.specs.Sets.{Set};
 ghost use Rattle.marks.specs.Words.{members};
 ghost use Rattle.norms.specs.Laws.{Lawful};
@@ -52,7 +52,7 @@ fn round<B: Book>(book: &B, proposed: &MarkSet, from: &MarkSet) -> MarkSet
 
 // Adds the heads of all rules of the book that apply.
 fn add_heads<B: Book>(book: &B, proposed: &MarkSet, from: &MarkSet, next: &mut MarkSet)
-    ensures { Adds (Has (B.Book.rules book.now)) (members proposed.now) (members from.now) (members next.old) (members next.new) }
+    ensures { Adds (ContainsAt (B.Book.rules book.now)) (members proposed.now) (members from.now) (members next.old) (members next.new) }
 {
     for n in 0..book.len() {
         add_head(book, n, proposed, from, next);

@@ -1,6 +1,6 @@
 -- The laws of equal rules. Assumes nothing.
-use Rattle.std.proofs.Common.{◌≡◌, ℕ, ◌+◌, ◌-◌, false, eqb, ◌⊎◌, List, [], ◌∷◌, ◌++◌, length, sym, refl, ◌∙◌, subst, inl, inr, ⊎_elim, arith}
-use Rattle.std.specs.List.{ContainsAt as Has, AllByRecursion as All}
+use Rattle.std.proofs.Common.{◌≡◌, ℕ, ◌-◌, false, eqb, ◌⊎◌, List, [], ◌∷◌, ◌++◌, length, sym, refl, ◌∙◌, subst, inl, inr, ⊎_elim, arith}
+use Rattle.std.specs.List.{ContainsAt, AllByRecursion}
 use Rattle.std.proofs.lemmas.List.{length-append, get_or_append_left, get_or-append_right}
 use Rattle.std.proofs.ByRecursion.{has_append_left, has_append_right}
 use Rattle.std.proofs.lemmas.Bool.{cases_lt, eqb-true, eq-eqb, or_left, or_right, or_cases, false≢true}
@@ -11,7 +11,7 @@ use Rattle.norms.specs.Steps.{given}
 use Rattle.norms.specs.Equal.{Like, Covers, Equal, Equivalence, Joined, Alike}
 
 -- what holds of all elements, by their set
-pub all_among : (P : ℕ → Type 0) (xs : List ℕ) → All P xs → (m : ℕ) → m ∈ among xs → P m
+pub all_among : (P : ℕ → Type 0) (xs : List ℕ) → AllByRecursion P xs → (m : ℕ) → m ∈ among xs → P m
 all_among P [] each m in-xs = absurd (false≢true in-xs)
 all_among P (x ∷ xs) each m in-xs =
     ⊎_elim
@@ -19,13 +19,13 @@ all_among P (x ∷ xs) each m in-xs =
     (λ later. all_among P xs each.1 m later)
     (or_cases (eqb m x) (among xs m) in-xs)
 
-pub among_all : (P : ℕ → Type 0) (xs : List ℕ) → ((m : ℕ) → m ∈ among xs → P m) → All P xs
+pub among_all : (P : ℕ → Type 0) (xs : List ℕ) → ((m : ℕ) → m ∈ among xs → P m) → AllByRecursion P xs
 among_all P [] each = tt
 among_all P (x ∷ xs) each =
     (each x (or_left (eqb x x) (among xs x) (eq-eqb x x refl)), among_all P xs (λ m later. each m (or_right (eqb m x) (among xs m) later)))
 
 -- lists of the same elements
-all_alike : (P : ℕ → Type 0) (xs ys : List ℕ) → among xs ≡ among ys → All P xs → All P ys
+all_alike : (P : ℕ → Type 0) (xs ys : List ℕ) → among xs ≡ among ys → AllByRecursion P xs → AllByRecursion P ys
 all_alike P xs ys same each = among_all P ys (λ m in_ys. all_among P xs each m (subst (λ S. m ∈ S) (sym same) in_ys))
 
 pub like_itself : (r : Rule ℕ) → Like r r
@@ -88,7 +88,7 @@ module _ (P Q : Program ℕ) (to : Within P Q) (back : Within Q P) where
   depth_like M G L d depth = record { rounds = rounds_like M G depth.rounds; rests = round_like M L L depth.rests }
 
 -- the rules of books beside the same further rules
-beside : (a b : List (Rule ℕ)) → ((r : Rule ℕ) → Has a r → Covers b r) → Within (Norms a) (Norms b)
+beside : (a b : List (Rule ℕ)) → ((r : Rule ℕ) → ContainsAt a r → Covers b r) → Within (Norms a) (Norms b)
 beside a b covers r =
     ⊎_elim
     (λ in-a. let found = covers r in-a in (found.0, inl found.1, found.2))
@@ -105,10 +105,10 @@ alike a b equal =
     }
 
 -- each rule of a list has its like in it
-itself_covers : (a : List (Rule ℕ)) (r : Rule ℕ) → Has a r → Covers a r
+itself_covers : (a : List (Rule ℕ)) (r : Rule ℕ) → ContainsAt a r → Covers a r
 itself_covers a r in-a = (r, in-a, like_itself r)
 
-through_covers : (b c : List (Rule ℕ)) → ((r : Rule ℕ) → Has b r → Covers c r) → (r : Rule ℕ) → Covers b r → Covers c r
+through_covers : (b c : List (Rule ℕ)) → ((r : Rule ℕ) → ContainsAt b r → Covers c r) → (r : Rule ℕ) → Covers b r → Covers c r
 through_covers b c covers r (s, in_b, like) = let found = covers s in_b in (found.0, found.1, like_through r s found.0 like found.2)
 
 pub equivalence : Equivalence
@@ -124,14 +124,14 @@ equivalence =
     }
 
 -- what stands in either of two lists
-has_either : (a b : List (Rule ℕ)) (r : Rule ℕ) → Has (a ++ b) r → Has a r ⊎ Has b r
+has_either : (a b : List (Rule ℕ)) (r : Rule ℕ) → ContainsAt (a ++ b) r → ContainsAt a r ⊎ ContainsAt b r
 has_either a b r (k, inside, at) =
     ⊎_elim
     (λ below. inl (k, below, λ d. sym (get_or_append_left a b d k below) ∙ at d))
     (λ past. inr (k - length a, omega (arith, length-append a b), λ d. sym (get_or-append_right a b (length a) k d refl past) ∙ at d))
     (cases_lt k (length a))
 
-other_order : (a b : List (Rule ℕ)) (r : Rule ℕ) → Has (a ++ b) r → Covers (b ++ a) r
+other_order : (a b : List (Rule ℕ)) (r : Rule ℕ) → ContainsAt (a ++ b) r → Covers (b ++ a) r
 other_order a b r in_both =
     ⊎_elim
     (λ in-a. (r, has_append_right b a r in-a, like_itself r))

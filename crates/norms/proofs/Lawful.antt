@@ -1,6 +1,6 @@
 -- The rules of every book with the frame rules keep the laws. Assumes nothing.
-use Rattle.std.proofs.Common.{◌≡◌, ℕ, zero, suc, List, [], ◌∷◌, refl}
-use Rattle.std.specs.List.{AllByRecursion as All}
+use Rattle.std.proofs.Common.{ℕ, zero, suc, List, [], ◌∷◌, refl}
+use Rattle.std.specs.List.{AllByRecursion}
 use Rattle.marks.specs.Sets.{Set}
 use Rattle.norms.specs.Programs.{Rule, Program}
 use Rattle.norms.specs.Rules.{Norms}
@@ -12,7 +12,7 @@ use Rattle.norms.proofs.Handing.{hands_on}
 use Rattle.norms.proofs.Traces.{together_from_each, each_from_together}
 use Rattle.norms.proofs.Levels.{one_model, one_trace}
 
-pub low_step : (sets : List (Set ℕ)) → All Low sets → (k : ℕ) → Low (of_step sets k)
+pub low_step : (sets : List (Set ℕ)) → AllByRecursion Low sets → (k : ℕ) → Low (of_step sets k)
 low_step sets low zero m h = refl
 low_step [] low (suc k) m h = refl
 low_step (M ∷ sets) low (suc zero) m h = low.0 m h

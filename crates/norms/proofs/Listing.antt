@@ -1,6 +1,6 @@
 -- The findings of steps are listed once each, by step and then by mark. Assumes nothing.
 use Rattle.std.proofs.Common.{◌≡◌, ℕ, zero, suc, ◌+◌, ◌-◌, ◌<◌, true, List, [], ◌∷◌, map, Some, sym, refl, ap, ◌∙◌, subst, inl, inr, ⊎_elim, arith}
-use Rattle.std.specs.List.{slice_get, AllByRecursion as All}
+use Rattle.std.specs.List.{slice_get, AllByRecursion}
 use Rattle.std.proofs.iter.runs.Lists.{none-some, same_Some}
 use Rattle.std.proofs.ByRecursion.{All-append, all_kept_by, All-map, All-weaker, kept_by_passes}
 use Rattle.std.proofs.lemmas.Bool.{cases_eq, cases_order}
@@ -12,7 +12,7 @@ use Rattle.norms.specs.Laws.{Finds, Before, Listed}
 use Rattle.norms.proofs.Places.{In, Rising, all_nth, all_from_nth, in_left, in_right, in_map, in_kept, rising_nth, rising_kept, rising_append, rising_map}
 
 -- the numbers below n
-pub counted_low : (n : ℕ) → All (λ m. m < n) (counted n)
+pub counted_low : (n : ℕ) → AllByRecursion (λ m. m < n) (counted n)
 unfolding counted
 counted_low zero = tt
 counted_low (suc n) =
@@ -34,7 +34,7 @@ unfolding counted
 counted_rising zero = tt
 counted_rising (suc n) =
     rising_append ◌<◌ (counted n) (n ∷ []) (counted_rising n) (tt, tt)
-    (All-weaker (λ m. m < n) (λ m. All (λ x. m < x) (n ∷ [])) (λ m low. (low, tt)) (counted n) (counted_low n))
+    (All-weaker (λ m. m < n) (λ m. AllByRecursion (λ x. m < x) (n ∷ [])) (λ m low. (low, tt)) (counted n) (counted_low n))
 
 -- the findings of one step
 module _ (M : Set ℕ) where
@@ -45,7 +45,7 @@ module _ (M : Set ℕ) where
   unfolding findings_in marks_in
   found_in m found = in_kept (finding M) (counted 1024) m found.1 (counted_in 1024 m found.0)
 
-  all_found : All Found (findings_in M)
+  all_found : AllByRecursion Found (findings_in M)
   unfolding findings_in marks_in
   all_found =
       all_from_nth
@@ -80,7 +80,7 @@ dated_each s (x ∷ steps) d (step, zero, number, at, found) =
 dated_each s (x ∷ steps) d (step, suc p, number, at, found) =
     in_right (dated s x) (dated_from (s + 1) steps) d (dated_each (s + 1) steps d (step, p, omega arith, at, found))
 
-pub dated_only : (s : ℕ) (steps : List Step) → All (FindsFrom s steps) (dated_from s steps)
+pub dated_only : (s : ℕ) (steps : List Step) → AllByRecursion (FindsFrom s steps) (dated_from s steps)
 dated_only s [] = tt
 dated_only s (x ∷ steps) =
     All-append
@@ -109,12 +109,12 @@ dated_rising s (x ∷ steps) =
     (rising_map ◌<◌ Before (λ m. (s, m)) (λ m n below. inr (refl, below)) (findings_in x.marks) (found_rising x.marks))
     (dated_rising (s + 1) steps)
     (All-map
-    (λ d. All (Before d) (dated_from (s + 1) steps))
+    (λ d. AllByRecursion (Before d) (dated_from (s + 1) steps))
     (λ m. (s, m))
     (findings_in x.marks)
     (All-weaker
     (Found x.marks)
-    (λ m. All (Before (s, m)) (dated_from (s + 1) steps))
+    (λ m. AllByRecursion (Before (s, m)) (dated_from (s + 1) steps))
     (λ m found. All-weaker (FindsFrom (s + 1) steps) (Before (s, m)) (λ d (step, p, number, at, of). inl (omega arith)) (dated_from (s + 1) steps) (dated_only (s + 1) steps))
     (findings_in x.marks)
     (all_found x.marks)))

@@ -2,7 +2,7 @@
 --     Covered sets others n    at the steps before n, the first have no mark that the others lack
 use Rattle.std.proofs.Common.{◌≡◌, ℕ, zero, suc, ◌+◌, ◌<◌, ◌≤◌, Bool, true, false, not, ◌&&◌, ◌≢◌, ◌⊎◌, List, [], ◌∷◌, length, Some, None, Option, unwrap_or, sym, refl, ap, ◌∙◌, inl, inr, ⊎_elim, arith}
 use mathlib.Core.Path.{fun_ext}
-use Rattle.std.specs.List.{slice_get, AllByRecursion as All}
+use Rattle.std.specs.List.{slice_get, AllByRecursion}
 use Rattle.std.proofs.iter.runs.Lists.{none-some, same_Some}
 use Rattle.std.proofs.ByRecursion.{kept_by_passes}
 use Rattle.std.proofs.lemmas.Option.{slice_get_past}
@@ -22,7 +22,7 @@ none_in (y ∷ xs) x e i = none-some y (sym e)
 
 -- the marks of a set, rising
 module _ (M : Set ℕ) where
-  marks_held : All (λ m. m ∈ M) (marks_in M)
+  marks_held : AllByRecursion (λ m. m ∈ M) (marks_in M)
   unfolding marks_in
   marks_held = kept_by_passes M (counted 1024)
 

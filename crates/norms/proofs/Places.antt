@@ -2,7 +2,7 @@
 --     In xs x        x stands at some place of xs
 --     Rising R xs    R holds of each element of xs and each that stands after it
 use Rattle.std.proofs.Common.{◌≡◌, ℕ, zero, suc, ◌+◌, ◌<◌, Bool, true, List, [], ◌∷◌, ◌++◌, map, length, Some, filter, sym, refl, ap, ◌∙◌, subst, ⊎_elim, arith}
-use Rattle.std.specs.List.{slice_get, ContainsAt as Has, AllByRecursion as All}
+use Rattle.std.specs.List.{slice_get, ContainsAt, AllByRecursion}
 use Rattle.std.specs.Option.{option_map}
 use Rattle.std.proofs.iter.runs.Lists.{none-some, same_Some, slice_get_within, nth_left, nth_right, slice_get-map}
 use Rattle.std.proofs.lemmas.Option.{slice_get-get_or}
@@ -13,21 +13,21 @@ abbrev pub In : {A : Type 0} → List A → A → Type 0
 In xs x = (k : ℕ) × (slice_get xs k ≡ Some x)
 
 module _ {A : Type 0} (P : A → Type 0) where
-  pub all_nth : (xs : List A) → All P xs → (k : ℕ) (x : A) → slice_get xs k ≡ Some x → P x
+  pub all_nth : (xs : List A) → AllByRecursion P xs → (k : ℕ) (x : A) → slice_get xs k ≡ Some x → P x
   all_nth [] each k x e = absurd (none-some x e)
   all_nth (y ∷ xs) each zero x e = subst P (same_Some y x e) each.0
   all_nth (y ∷ xs) each (suc k) x e = all_nth xs each.1 k x e
 
-  pub all_from_nth : (xs : List A) → ((k : ℕ) (x : A) → k < length xs → slice_get xs k ≡ Some x → P x) → All P xs
+  pub all_from_nth : (xs : List A) → ((k : ℕ) (x : A) → k < length xs → slice_get xs k ≡ Some x → P x) → AllByRecursion P xs
   all_from_nth [] each = tt
   all_from_nth (y ∷ xs) each =
       (each 0 y (omega arith) refl, all_from_nth xs (λ k x l e. each (suc k) x (omega arith) e))
 
 module _ {A : Type 0} where
-  pub in_has : (xs : List A) (x : A) → In xs x → Has xs x
+  pub in_has : (xs : List A) (x : A) → In xs x → ContainsAt xs x
   in_has xs x (k, at) = let inside = slice_get_within xs k x at in (k, inside, λ d. same_Some _ _ (sym (slice_get-get_or xs k d inside) ∙ at))
 
-  pub has_in : (xs : List A) (x : A) → Has xs x → In xs x
+  pub has_in : (xs : List A) (x : A) → ContainsAt xs x → In xs x
   has_in xs x (k, inside, at) = (k, slice_get-get_or xs k x inside ∙ ap Some (at x))
 
   pub in_left : (xs ys : List A) (x : A) → In xs x → In (xs ++ ys) x
@@ -53,7 +53,7 @@ module _ {A : Type 0} where
 
 abbrev pub Rising : {A : Type 0} → (A → A → Type 0) → List A → Type 0
 Rising R [] = Unit {0}
-Rising R (x ∷ xs) = All (R x) xs × Rising R xs
+Rising R (x ∷ xs) = AllByRecursion (R x) xs × Rising R xs
 
 module _ {A : Type 0} (R : A → A → Type 0) where
   pub rising_nth : (xs : List A) → Rising R xs → (j k : ℕ) (x y : A) → j < k → slice_get xs j ≡ Some x → slice_get xs k ≡ Some y → R x y
@@ -75,7 +75,7 @@ module _ {A : Type 0} (R : A → A → Type 0) where
       (λ _. (all_kept_by p (R x) xs rising.0, rising_kept p xs rising.1))
       (λ _. rising_kept p xs rising.1)
 
-  pub rising_append : (xs ys : List A) → Rising R xs → Rising R ys → All (λ x. All (R x) ys) xs → Rising R (xs ++ ys)
+  pub rising_append : (xs ys : List A) → Rising R xs → Rising R ys → AllByRecursion (λ x. AllByRecursion (R x) ys) xs → Rising R (xs ++ ys)
   rising_append [] ys first second across = second
   rising_append (x ∷ xs) ys first second across =
       (All-append (R x) xs ys first.0 across.0, rising_append xs ys first.1 second across.1)

@@ -1,7 +1,7 @@
 -- The standing steps as rows of sets: what they hand on, one step more, a front of them, and their trace. Assumes nothing.
 --     EachStep rules steps    each of the standing steps is stable over what it is given
 use Rattle.std.proofs.Common.{◌≡◌, ℕ, zero, suc, ◌<◌, ◌||◌, ◌↔◌, List, [], ◌∷◌, ◌++◌, length, take, drop, sym, refl, ap, ◌∙◌, subst, subst₂, arith}
-use Rattle.std.specs.List.{AllByRecursion as All}
+use Rattle.std.specs.List.{AllByRecursion}
 use Rattle.std.proofs.lemmas.List.{length-map, take-append-drop, map-append, map_push}
 use Rattle.std.proofs.lemmas.Bool.{false≢true}
 use Rattle.marks.specs.Sets.{Set, ◌∈◌, nothing}
@@ -72,14 +72,14 @@ module _ (rules : List (Rule ℕ)) where
         (each_more (Norms rules) handed_on (said_of steps) (marks_of steps) (as_many steps) s.said s.marks each
         (subst (λ G. Stable (Norms rules) G s.marks) (given_is steps s.said) stable))
 
-  pub stable_trace : (steps : List Step) → All Low (marks_of steps) → EachStep steps ↔ StableTrace rules steps
+  pub stable_trace : (steps : List Step) → AllByRecursion Low (marks_of steps) → EachStep steps ↔ StableTrace rules steps
   stable_trace steps low =
       subst (λ n. EachStep steps ↔ Stable (Together (Norms rules) Handing n) (at (said_of steps)) (trace steps))
       (length-map steps (λ (s : Step). s.marks))
       ((lawful rules).all_steps (said_of steps) (marks_of steps) (as_many steps) low)
 
 -- the dated marks of steps with marks below 1,024
-pub dated_within : (sets : List (Set ℕ)) → All Low sets → (d : ℕ × ℕ) → d ∈ at sets → (d.0 < suc (length sets)) × (d.1 < 1024)
+pub dated_within : (sets : List (Set ℕ)) → AllByRecursion Low sets → (d : ℕ × ℕ) → d ∈ at sets → (d.0 < suc (length sets)) × (d.1 < 1024)
 dated_within sets low d member = (within d.0 d.1 member, low_member (of_step sets d.0) (low_step sets low d.0) d.1 member)
   where
     within : (s m : ℕ) → m ∈ of_step sets s → s < suc (length sets)

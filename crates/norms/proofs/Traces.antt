@@ -1,14 +1,14 @@
 -- All steps together are stable exactly when each step is. Assumes nothing.
-use Rattle.std.proofs.Common.{◌≡◌, ℕ, zero, suc, ◌+◌, ◌<◌, ◌≤◌, Bool, true, false, not, ◌&&◌, ◌||◌, eqb, ◌⊎◌, ◌↔◌, List, [], ◌∷◌, map, length, unwrap_or, sym, refl, ap, ◌∙◌, subst, inl, inr, ⊎_elim, arith}
-use Rattle.std.specs.List.{slice_get, AllByRecursion as All}
+use Rattle.std.proofs.Common.{◌≡◌, ℕ, zero, suc, ◌<◌, ◌≤◌, true, false, not, ◌&&◌, ◌||◌, eqb, List, [], ◌∷◌, map, length, unwrap_or, sym, refl, ap, ◌∙◌, subst, inl, inr, ⊎_elim, arith}
+use Rattle.std.specs.List.{AllByRecursion}
 use Rattle.std.proofs.ByRecursion.{All-map, All-weaker}
 use Rattle.std.proofs.lemmas.Option.{slice_get_past}
 use Rattle.std.proofs.lemmas.Bool.{false≢true, and_parts, and_from, or_cases, or_left, or_right, cases_lt, cases_eq, eq-eqb, ne_eqb}
 use Rattle.marks.specs.Sets.{Set, ◌∈◌, ◌⊆◌, nothing}
-use Rattle.norms.specs.Programs.{Rule, Program, Stays, Met, Closed, Smallest, Stable}
+use Rattle.norms.specs.Programs.{Rule, Program, Stays, Met, Closed, Stable}
 use Rattle.norms.specs.Traces.{Hand, of_step, at, dated, hands, Together, Hands, given_at, EachStable}
 
-all_unmap : {X Y : Type 0} (Q : Y → Type 0) (f : X → Y) (xs : List X) → All Q (map f xs) → All (λ x. Q (f x)) xs
+all_unmap : {X Y : Type 0} (Q : Y → Type 0) (f : X → Y) (xs : List X) → AllByRecursion Q (map f xs) → AllByRecursion (λ x. Q (f x)) xs
 all_unmap Q f [] h = tt
 all_unmap Q f (x ∷ xs) h = (h.0, all_unmap Q f xs h.1)
 

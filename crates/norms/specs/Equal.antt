@@ -9,7 +9,7 @@
 --     Joined             two lists one after the other, in either order, are equal
 --     Alike rules other  the same steps are stable, the same sets are smallest, and the depth is the same
 use Rattle.std.specs.Prelude.{◌≡◌, ℕ, ◌↔◌, List, ◌++◌}
-use Rattle.std.specs.List.{ContainsAt as Has}
+use Rattle.std.specs.List.{ContainsAt}
 use Rattle.marks.specs.Sets.{Set, among}
 use Rattle.norms.specs.Programs.{Rule, Smallest, Depth}
 use Rattle.norms.specs.Rules.{Norms}
@@ -21,11 +21,11 @@ pub record Like (r s : Rule ℕ) : Type 0 where
   pub barred : among r.barred ≡ among s.barred
 
 abbrev pub Covers : List (Rule ℕ) → Rule ℕ → Type 0
-Covers rules s = (r : Rule ℕ) × Has rules r × Like s r
+Covers rules s = (r : Rule ℕ) × ContainsAt rules r × Like s r
 
 pub record Equal (rules other : List (Rule ℕ)) : Type 0 where
-  pub to : (r : Rule ℕ) → Has rules r → Covers other r
-  pub from : (r : Rule ℕ) → Has other r → Covers rules r
+  pub to : (r : Rule ℕ) → ContainsAt rules r → Covers other r
+  pub from : (r : Rule ℕ) → ContainsAt other r → Covers rules r
 
 pub record Equivalence : Type 0 where
   pub itself : (a : List (Rule ℕ)) → Equal a a

@@ -4,7 +4,7 @@
 --     findings_in M    the findings of a step, rising by mark
 --     dated_from s ss  the findings of steps ss, of which the first has the number s, by step and then by mark
 --     findings steps   all findings of the standing steps, by step and then by mark
-use Rattle.std.specs.Prelude.{ℕ, ◌+◌, Bool, ◌&&◌, ◌||◌, List, [], ◌∷◌, ◌++◌, map, ◌==◌}
+use Rattle.std.specs.Prelude.{ℕ, ◌+◌, ◌&&◌, ◌||◌, List, [], ◌∷◌, ◌++◌, map, ◌==◌}
 use Rattle.marks.specs.Sets.{Set}
 use Rattle.marks.specs.Members.{marks_in}
 use Rattle.marks.specs.Numbers.{mark, instance, attribute, holds, violated, breached}

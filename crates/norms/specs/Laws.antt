@@ -16,7 +16,7 @@
 --     Listed steps         all findings of the steps are listed, nothing else is, and none twice; they rise by step
 --                          and then by mark
 use Rattle.std.specs.Prelude.{◌≡◌, ℕ, ◌-◌, ◌<◌, ◌≤◌, false, ◌⊎◌, ◌↔◌, List, length, Some}
-use Rattle.std.specs.List.{slice_get, AllByRecursion as All}
+use Rattle.std.specs.List.{slice_get, AllByRecursion}
 use Rattle.marks.specs.Sets.{Set, ◌∈◌, ◌⊆◌}
 use Rattle.norms.specs.Programs.{Rule, Program, Smallest, Stable, Depth}
 use Rattle.norms.specs.Rules.{Norms}
@@ -50,7 +50,7 @@ Low M = (m : ℕ) → 1024 ≤ m → M m ≡ false
 
 abbrev pub AllSteps : Program ℕ → Type 0
 AllSteps P =
-    (said sets : List (Set ℕ)) → length said ≡ length sets → All Low sets
+    (said sets : List (Set ℕ)) → length said ≡ length sets → AllByRecursion Low sets
     → (EachStable P handed_on said sets ↔ Stable (Together P Handing (length sets)) (at said) (at sets))
 
 abbrev pub OneTrace : Program ℕ → Type 0

@@ -12,8 +12,8 @@
 --     Grows S R          R has a mark that S lacks
 --     Rounds P M G n S   n rounds from G, each of which adds a mark, lead to S
 --     Depth P M G d L    d rounds add a mark, and lead to L, which a further round leaves as it is
-use Rattle.std.specs.Prelude.{◌≡◌, ℕ, zero, suc, Bool, true, false, ◌⊎◌, ◌↔◌, List}
-use Rattle.std.specs.List.{AllByRecursion as All}
+use Rattle.std.specs.Prelude.{◌≡◌, ℕ, suc, false, ◌⊎◌, ◌↔◌, List}
+use Rattle.std.specs.List.{AllByRecursion}
 use Rattle.marks.specs.Sets.{Set, ◌∈◌, ◌⊆◌}
 
 pub record Rule (A : Type 0) : Type 0 where
@@ -26,10 +26,10 @@ Program A = Rule A → Type 0
 
 module _ {A : Type 0} where
   abbrev pub Stays : Set A → Rule A → Type 0
-  Stays M r = All (λ b. M b ≡ false) r.barred
+  Stays M r = AllByRecursion (λ b. M b ≡ false) r.barred
 
   abbrev pub Met : Set A → Rule A → Type 0
-  Met S r = All (λ a. a ∈ S) r.required
+  Met S r = AllByRecursion (λ a. a ∈ S) r.required
 
   abbrev pub Closed : Program A → Set A → Set A → Type 0
   Closed P M S = (r : Rule A) → P r → Stays M r → Met S r → r.head ∈ S

@@ -8,7 +8,7 @@
 --                      attribute carried or breached, at most 14 body marks
 --     SoundBook rules  at most 1,024 rules, each within these bounds
 use Rattle.std.specs.Prelude.{◌≡◌, ℕ, ◌<◌, ◌≤◌, ◌≢◌, ◌⊎◌, List, [], ◌∷◌, ◌++◌, length}
-use Rattle.std.specs.List.{ContainsAt as Has, AllByRecursion as All}
+use Rattle.std.specs.List.{ContainsAt, AllByRecursion}
 use Rattle.marks.specs.Numbers.{mark, attribute, carried, holds, enabled, triggered, breached}
 use Rattle.norms.specs.Programs.{Rule, Program}
 
@@ -22,7 +22,7 @@ abbrev pub Frame : Program ℕ
 Frame r = (i : ℕ) × (i < 128) × ((r ≡ holds_rule i) ⊎ (r ≡ breach_rule i))
 
 abbrev pub Norms : List (Rule ℕ) → Program ℕ
-Norms rules r = Has rules r ⊎ Frame r
+Norms rules r = ContainsAt rules r ⊎ Frame r
 
 abbrev pub body : Rule ℕ → List ℕ
 body r = r.required ++ r.barred
@@ -32,8 +32,8 @@ pub record SoundRule (r : Rule ℕ) : Type 0 where
   pub not_carried : attribute r.head ≢ carried
   pub not_breached : attribute r.head ≢ breached
   pub few : length (body r) ≤ 14
-  pub body_low : All (λ m. m < 1024) (body r)
+  pub body_low : AllByRecursion (λ m. m < 1024) (body r)
 
 pub record SoundBook (rules : List (Rule ℕ)) : Type 0 where
   pub few : length rules ≤ 1024
-  pub each : All SoundRule rules
+  pub each : AllByRecursion SoundRule rules

@@ -7,7 +7,7 @@
 --     inherited steps          what the last of the standing steps hands on; nothing before step 1
 --     given steps said         what the next step is given: what it inherits and what is said
 --     StableStep rules steps said M   M is a stable step after the standing steps, with this said
-use Rattle.std.specs.Prelude.{◌≡◌, ℕ, ◌<◌, Bool, not, ◌&&◌, ◌||◌, ◌⊎◌, List, [], ◌∷◌, ◌==◌}
+use Rattle.std.specs.Prelude.{◌≡◌, ℕ, ◌<◌, not, ◌&&◌, ◌||◌, ◌⊎◌, List, [], ◌∷◌, ◌==◌}
 use Rattle.marks.specs.Sets.{Set, nothing}
 use Rattle.marks.specs.Numbers.{mark, instance, attribute, carried, created, ended}
 use Rattle.norms.specs.Programs.{Rule, Stable}

@@ -9,7 +9,7 @@
 --     Hands H hand M      the function hand gives what a step with the marks M hands on
 --     given_at            what step k + 1 is given: what is said and what the step before hands on
 --     EachStable          each of the sets is a stable model of P over what its step is given
-use Rattle.std.specs.Prelude.{◌≡◌, ℕ, zero, suc, ◌+◌, ◌<◌, ◌≤◌, Bool, true, false, ◌||◌, ◌⊎◌, ◌↔◌, List, [], ◌∷◌, map, length, Option}
+use Rattle.std.specs.Prelude.{◌≡◌, ℕ, zero, suc, ◌<◌, ◌≤◌, false, ◌||◌, ◌⊎◌, ◌↔◌, List, [], ◌∷◌, map, length}
 use Rattle.std.specs.List.{slice_get}
 use Rattle.std.specs.Option.{unwrap_or}
 use Rattle.marks.specs.Sets.{Set, ◌∈◌, nothing}

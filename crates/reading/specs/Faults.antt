@@ -1,5 +1,4 @@
 -- What the faults of the byte reader tell. Assumes nothing.
-use Rattle.std.specs.Prelude.{ℕ}
 use Rattle.refusals.specs.declared.Told.{Told}
 use Rattle.refusals.specs.Telling.{refusal_in}
 use Rattle.reading.specs.declared.fault.ReadFault.{ReadFault}

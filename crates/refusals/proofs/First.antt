@@ -1,5 +1,5 @@
 -- The first of the checks below n. Assumes nothing.
-use Rattle.std.proofs.Common.{◌≡◌, ℕ, zero, suc, ◌+◌, ◌<◌, ◌≤◌, Some, None, Option, sym, refl, ap, ◌∙◌, add-one, arith}
+use Rattle.std.proofs.Common.{◌≡◌, ℕ, ◌+◌, ◌<◌, Some, None, Option, refl, ap, ◌∙◌, add-one}
 use native.Mathlib.Decide.{le_ind}
 use Rattle.refusals.specs.declared.Told.{Told}
 use Rattle.refusals.specs.Checks.{◌⨟◌, first_below}

@@ -1,5 +1,5 @@
 -- What a buffer holds after a line, by the answer. Assumes nothing.
-use Rattle.std.proofs.Common.{◌≡◌, ℕ, cond, List, length, is_ok, Ok, Err, Result, sym, refl, ap, ◌∙◌}
+use Rattle.std.proofs.Common.{◌≡◌, ℕ, cond, List, is_ok, Ok, Err, Result, refl, ap, ◌∙◌}
 use Rattle.refusals.specs.Telling.{answered}
 use Rattle.lines.specs.declared.fault.Short.{Short}
 use Rattle.lines.specs.Faults.{short_told}

@@ -5,7 +5,7 @@
 --                                    then 41 a buffer that is too short, else how many bytes the line has
 --     line_written steps names k old what the buffer holds then that held old
 --     last_text steps out            the last line: how many steps stand, or the refusal
-use Rattle.std.specs.Prelude.{ℕ, Bool, List, length, Some, None, Ok, Err, Option, Result, ◌==◌}
+use Rattle.std.specs.Prelude.{ℕ, List, length, Some, None, Ok, Err, Option, Result, ◌==◌}
 use Rattle.std.specs.List.{slice_get}
 use Rattle.std.specs.Option.{unwrap_or}
 use Rattle.refusals.specs.declared.Told.{Told}

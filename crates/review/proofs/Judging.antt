@@ -1,11 +1,10 @@
 -- From what the parts of the judgement answer to its whole. Assumes nothing.
-use Rattle.std.proofs.Common.{◌≡◌, ℕ, ◌+◌, ◌<◌, Bool, true, false, leb, List, length, Some, None, Ok, Err, Option, Result, sym, refl, ap, ◌∙◌, subst, arith}
-use mathlib.Core.Path.{fun_ext}
+use Rattle.std.proofs.Common.{◌≡◌, ℕ, ◌+◌, ◌<◌, List, length, None, Result, sym, ap, ◌∙◌, subst}
 use Rattle.std.proofs.lemmas.Bool.{lt-leb}
 use Rattle.refusals.specs.declared.Told.{Told}
 use Rattle.refusals.specs.Telling.{refusal}
-use Rattle.refusals.specs.Checks.{◌⨟◌, refuse_if, passes}
-use Rattle.marks.specs.Sets.{Set, ◌∈◌, ◌⊆◌, among}
+use Rattle.refusals.specs.Checks.{◌⨟◌, refuse_if}
+use Rattle.marks.specs.Sets.{Set, ◌⊆◌, among}
 use Rattle.norms.specs.Programs.{Rule}
 use Rattle.norms.specs.Steps.{Step, given}
 use Rattle.norms.specs.Findings.{findings_in}

@@ -1,5 +1,5 @@
 -- The definition of an answer settles it. Assumes nothing.
-use Rattle.std.proofs.Common.{◌≡◌, ℕ, Bool, true, false, ◌⊎◌, List, is_ok, Some, None, Ok, Err, Option, Result, sym, refl, ap, ◌∙◌, subst, inl, inr, arith}
+use Rattle.std.proofs.Common.{◌≡◌, ℕ, true, false, ◌⊎◌, List, is_ok, Some, None, Ok, Err, Option, Result, sym, refl, ap, ◌∙◌, subst, inl, inr, arith}
 use Rattle.std.proofs.lemmas.Bool.{both_ways}
 use Rattle.refusals.specs.declared.Told.{Told}
 use Rattle.marks.specs.Sets.{Set, among}
@@ -8,7 +8,7 @@ use Rattle.norms.specs.Rules.{Norms}
 use Rattle.norms.specs.Steps.{Step, StableStep, given}
 use Rattle.norms.proofs.Models.{one_smallest, one_depth}
 use Rattle.review.specs.declared.review.Accepted.{Accepted}
-use Rattle.review.specs.Proposals.{lists_check, Brought, Passes, LeftOut, Unfounded, StepJudged, JudgedAfter, Judged}
+use Rattle.review.specs.Proposals.{lists_check, Brought, LeftOut, Unfounded, StepJudged, JudgedAfter}
 use Rattle.review.specs.Settled.{Alike, Settled, Exactly}
 
 same_accepted : (a b : Accepted) → a.step ≡ b.step → a.depth ≡ b.depth → a.findings ≡ b.findings → a ≡ b

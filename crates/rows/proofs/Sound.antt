@@ -1,6 +1,6 @@
 -- The rule of a row that passes the check keeps the bounds of a rule. Assumes nothing.
 use Rattle.std.proofs.Common.{◌≡◌, ℕ, ◌+◌, ◌-◌, ◌*◌, ◌<◌, ◌≤◌, false, List, length, get_or, is_some, None, sym, ap, ◌∙◌, subst, arith}
-use Rattle.std.specs.List.{AllByRecursion as All}
+use Rattle.std.specs.List.{AllByRecursion}
 use Rattle.std.proofs.lemmas.List.{take-append-drop, length-take, length-drop}
 use Rattle.std.proofs.lemmas.List.FromFn.{length-map-range_with_len, get_or-map-range_with_len}
 use Rattle.std.proofs.ByRecursion.{All-from_get_or}
@@ -57,7 +57,7 @@ module _ (here : Item) (at : ℕ) (row : List ℕ) (passed : row_check here at r
     not_carried = head_kind.0;
     not_breached = head_kind.1;
     few = omega (arith, few_marks, ap length (body_marks row), length_marks row);
-    body_low = subst (All (λ m. m < 1024)) (sym (body_marks row)) (All-from_get_or (λ m. m < 1024) (marks row) 0 (λ k h. let l = length_marks row in let b : k < body_count row = omega arith in omega (arith, get_or_marks row k b, mark_low k b)));
+    body_low = subst (AllByRecursion (λ m. m < 1024)) (sym (body_marks row)) (All-from_get_or (λ m. m < 1024) (marks row) 0 (λ k h. let l = length_marks row in let b : k < body_count row = omega arith in omega (arith, get_or_marks row k b, mark_low k b)));
   }
 
 -- rows that pass are a sound book

@@ -3,7 +3,7 @@
 --     HasLike a n b     rule n of the rules a has its like in the rules b
 --     Covered a b       each of the rules a has its like in the rules b
 use Rattle.std.specs.Prelude.{◌≡◌, ℕ, List, Some}
-use Rattle.std.specs.List.{slice_get, ContainsAt as Has}
+use Rattle.std.specs.List.{slice_get, ContainsAt}
 use Rattle.norms.specs.Programs.{Rule}
 use Rattle.norms.specs.Equal.{Like, Covers}
 
@@ -14,4 +14,4 @@ abbrev pub HasLike : List (Rule ℕ) → ℕ → List (Rule ℕ) → Type 0
 HasLike a n b = (k : ℕ) × LikeAt a n b k
 
 abbrev pub Covered : List (Rule ℕ) → List (Rule ℕ) → Type 0
-Covered a b = (r : Rule ℕ) → Has a r → Covers b r
+Covered a b = (r : Rule ℕ) → ContainsAt a r → Covers b r

@@ -2,7 +2,7 @@
 -- since an impl can take it from no other place, and need not be read. Assumes nothing.
 use Rattle.std.specs.Prelude.{◌≡◌, ℕ, zero, suc, ◌+◌, ◌*◌, ◌%◌, ◌<◌, ◌≤◌, true, not, ◌||◌, ◌⊎◌, List, length, is_some, None, ◌==◌, nat_lt, slice_index, slice_index_or}
 use Rattle.std.proofs.Common.{sym, ap, ◌∙◌, subst, inl, inr, ⊎_elim, mul_assoc, arith}
-use Rattle.std.specs.List.{AllByRecursion as All}
+use Rattle.std.specs.List.{AllByRecursion}
 use Rattle.std.proofs.lemmas.List.{take-append-drop, length-take, length-drop}
 use Rattle.std.proofs.lemmas.List.FromFn.{length-map-range_with_len, get_or-map-range_with_len}
 use Rattle.std.proofs.ByRecursion.{All-from_get_or}
@@ -81,7 +81,7 @@ module _ (row : List ℕ) (width count moving : ℕ) (passed : series_check row 
         not_carried = λ e. (head_kind the_row 0 row row_passed).0 (sym (same_attribute row width moving n 0) ∙ e);
         not_breached = λ e. (head_kind the_row 0 row row_passed).1 (sym (same_attribute row width moving n 0) ∙ e);
         few = omega (arith, few_positions, ap length (series_body row width moving n), length_moved row width moving n);
-        body_low = subst (All (λ m. m < 1024)) (sym (series_body row width moving n)) (All-from_get_or (λ m. m < 1024) (moved_marks row width moving n) 0 low_body);
+        body_low = subst (AllByRecursion (λ m. m < 1024)) (sym (series_body row width moving n)) (All-from_get_or (λ m. m < 1024) (moved_marks row width moving n) 0 low_body);
       }
     where
       low_body : (k : ℕ) → k < length (moved_marks row width moving n) → slice_index (moved_marks row width moving n) k < 1024

@@ -1,5 +1,5 @@
 -- The findings of a step, one mark after the other. Assumes nothing.
-use Rattle.std.proofs.Common.{◌≡◌, ℕ, zero, suc, ◌+◌, ◌-◌, ◌<◌, ◌≤◌, Bool, true, false, cond, List, [], ◌∷◌, ◌++◌, length, Some, None, Ok, Err, filter, Option, Result, sym, refl, ap, ◌∙◌, ⊎_elim, append-nil, add-one, arith, length-append}
+use Rattle.std.proofs.Common.{◌≡◌, ℕ, zero, suc, ◌+◌, ◌<◌, ◌≤◌, true, false, cond, List, [], ◌∷◌, ◌++◌, length, Some, Ok, Err, filter, sym, refl, ap, ◌∙◌, append-nil, add-one, arith, length-append}
 use native.Mathlib.Decide.{le_ind}
 use Rattle.std.specs.List.{slice_get}
 use Rattle.std.specs.Option.{ok_or}

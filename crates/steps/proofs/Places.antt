@@ -1,5 +1,5 @@
 -- The steps that stand in the places of a table. Assumes nothing.
-use Rattle.std.proofs.Common.{◌≡◌, ℕ, suc, ◌+◌, ◌-◌, ◌<◌, ◌≤◌, List, [], ◌∷◌, ◌++◌, map, length, get_or, take, set, sym, refl, ap, ◌∙◌, arith}
+use Rattle.std.proofs.Common.{◌≡◌, ℕ, ◌+◌, ◌-◌, ◌<◌, ◌≤◌, List, [], ◌∷◌, ◌++◌, map, length, get_or, take, set, sym, ap, ◌∙◌, arith}
 use mathlib.Core.List.{map-append}
 use Rattle.marks.specs.Words.{members}
 use Rattle.std.proofs.lemmas.List.{length-map, length-take, length-take-le, take_more_set, take_more, take_all, get_or-map, get_or-take}

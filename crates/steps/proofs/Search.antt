@@ -1,11 +1,10 @@
 -- The search for finding k through the places of a table. Assumes nothing.
-use Rattle.std.proofs.Common.{◌≡◌, ℕ, ◌+◌, ◌-◌, ◌<◌, ◌≤◌, length, get_or, take, Some, None, Ok, Err, sym, refl, ap, ◌∙◌, arith}
+use Rattle.std.proofs.Common.{◌≡◌, ℕ, ◌+◌, ◌-◌, ◌<◌, ◌≤◌, length, get_or, take, Ok, Err, sym, ap, ◌∙◌, arith}
 use Rattle.std.specs.List.{slice_get}
 use Rattle.std.specs.Option.{ok_or}
 use Rattle.std.proofs.lemmas.List.{take_all}
 use Rattle.std.proofs.lemmas.Option.{slice_get_past}
 use Rattle.marks.specs.Words.{members}
-use Rattle.norms.specs.Steps.{Step}
 use Rattle.norms.specs.Findings.{dated_from, findings, findings_in}
 use Rattle.steps.specs.declared.record.Record.{Record}
 use Rattle.steps.specs.declared.table.Table.{Table}

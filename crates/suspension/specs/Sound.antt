@@ -2,7 +2,7 @@
 -- since an impl can take it from no other place, and need not be read. Assumes nothing.
 use Rattle.std.specs.Prelude.{ℕ, ◌+◌, ◌≤◌, List, [], ◌∷◌, length}
 use Rattle.std.proofs.Common.{arith}
-use Rattle.std.specs.List.{AllByRecursion as All}
+use Rattle.std.specs.List.{AllByRecursion}
 use Rattle.std.proofs.lemmas.Bool.{cond_both}
 use Rattle.marks.specs.Sets.{among}
 use Rattle.norms.specs.Programs.{Rule}
@@ -18,10 +18,10 @@ rest_few ns i (r ∷ rules) =
     (λ _. omega (arith, rest_few ns (i + 1) rules))
 
 -- what holds of each rule holds of each that is left
-pub rest_all : (P : Rule ℕ → Type 0) (ns : List ℕ) (i : ℕ) (rules : List (Rule ℕ)) → All P rules → All P (rest_from ns i rules)
+pub rest_all : (P : Rule ℕ → Type 0) (ns : List ℕ) (i : ℕ) (rules : List (Rule ℕ)) → AllByRecursion P rules → AllByRecursion P (rest_from ns i rules)
 rest_all P ns i [] each = tt
 rest_all P ns i (r ∷ rules) each =
-    cond_both (among ns i) (rest_from ns (i + 1) rules) (r ∷ rest_from ns (i + 1) rules) (All P)
+    cond_both (among ns i) (rest_from ns (i + 1) rules) (r ∷ rest_from ns (i + 1) rules) (AllByRecursion P)
     (λ _. rest_all P ns (i + 1) rules each.1)
     (λ _. (each.0, rest_all P ns (i + 1) rules each.1))
 

@@ -2,12 +2,11 @@
 --     Front rules before entry now i steps
 --         the first i of the exchanges `entry` were heard, where the steps `before` stood; these exchanges are now `now`, and
 --         the steps `steps` stand
-use Rattle.std.proofs.Common.{◌≡◌, ℕ, zero, suc, ◌+◌, ◌<◌, ◌≤◌, ◌≢◌, List, [], ◌∷◌, ◌++◌, map, length, get_or, take, set, sym, refl, ap, ◌∙◌, subst, ap₂, subst₂, arith, set-set}
+use Rattle.std.proofs.Common.{◌≡◌, ℕ, ◌+◌, ◌<◌, ◌≤◌, List, [], ◌∷◌, ◌++◌, length, get_or, take, set, sym, refl, ap, ◌∙◌, subst, ap₂, arith, set-set}
 use lib.Seq.{map-set_same}
-use Rattle.std.proofs.lemmas.List.{length-map, length-set, length-take-le, take_more, take_more_set, take_all, get_or-set_same, get_or-set_other}
+use Rattle.std.proofs.lemmas.List.{length-map, length-take-le, take_more, take_more_set, take_all, get_or-set_same, get_or-set_other}
 use Rattle.norms.specs.Programs.{Rule}
 use Rattle.norms.specs.Steps.{Step}
-use Rattle.transcripts.specs.Asks as model
 use Rattle.transcripts.specs.Hearing.{Lists, steps_by, then, stands, Settles, Heard}
 use Rattle.transcripts.specs.Views.{ask_of, asks, exchanged, transcript}
 use Rattle.transcripts.specs.declared.exchange.Answer.{Answer}

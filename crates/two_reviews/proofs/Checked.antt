@@ -1,7 +1,7 @@
 -- The lists of a proposal pass their checks exactly where the proposal is free of the refusals before the judgement.
 -- Assumes nothing.
 use Rattle.std.proofs.Common.{◌≡◌, ℕ, zero, suc, ◌-◌, ◌<◌, Bool, true, false, ltb, leb, ◌↔◌, List, length, get_or, None, ap, ⊎_elim, arith}
-use Rattle.std.specs.List.{AllByRecursion as All}
+use Rattle.std.specs.List.{AllByRecursion}
 use Rattle.std.proofs.ByRecursion.{All-get_or, All-from_get_or}
 use Rattle.std.proofs.lemmas.Bool.{and_cases, not-false, not_from_true, ltb-false, leb-false, le-ltb, lt-leb}
 use Rattle.refusals.specs.Telling.{refusal}
@@ -21,12 +21,12 @@ Nowhere test xs = (i : ℕ) → i < length xs → test xs i ≡ false
 
 -- what each test means where it fails at each place
 module _ (xs : List ℕ) where
-  none_high : All (λ m. m < 1024) xs → Nowhere high xs
+  none_high : AllByRecursion (λ m. m < 1024) xs → Nowhere high xs
   none_high low i within =
       let here : get_or xs i 0 < 1024 = All-get_or (λ m. m < 1024) xs i 0 within low in
       le-ltb 1023 (get_or xs i 0) (omega arith)
 
-  all_low : Nowhere high xs → All (λ m. m < 1024) xs
+  all_low : Nowhere high xs → AllByRecursion (λ m. m < 1024) xs
   all_low none = All-from_get_or (λ m. m < 1024) xs 0 (λ i within. omega (arith, ltb-false 1023 (get_or xs i 0) (none i within)))
 
   none_unrising : Rising xs → Nowhere unrising xs
@@ -42,10 +42,10 @@ module _ (xs : List ℕ) where
       (λ above. omega (arith, leb-false (get_or xs (suc i) 0) (get_or xs (suc i - 1) 0) above))
       (and_cases (ltb 0 (suc i)) (leb (get_or xs (suc i) 0) (get_or xs (suc i - 1) 0)) (none (suc i) within))
 
-  none_unsayable : All (λ m. says m ≡ true) xs → Nowhere unsayable xs
+  none_unsayable : AllByRecursion (λ m. says m ≡ true) xs → Nowhere unsayable xs
   none_unsayable each i within = not_from_true (says (get_or xs i 0)) (All-get_or (λ m. says m ≡ true) xs i 0 within each)
 
-  all_sayable : Nowhere unsayable xs → All (λ m. says m ≡ true) xs
+  all_sayable : Nowhere unsayable xs → AllByRecursion (λ m. says m ≡ true) xs
   all_sayable none = All-from_get_or (λ m. says m ≡ true) xs 0 (λ i within. not-false (says (get_or xs i 0)) (none i within))
 
 -- the checks of one mark
@@ -85,7 +85,7 @@ module _ (xs : List ℕ) (i : ℕ) where
 
 -- the checks of a whole list
 module _ (xs : List ℕ) where
-  said_passed : said_check xs ≡ None → All (λ m. m < 1024) xs × Rising xs × All (λ m. says m ≡ true) xs
+  said_passed : said_check xs ≡ None → AllByRecursion (λ m. m < 1024) xs × Rising xs × AllByRecursion (λ m. says m ≡ true) xs
   said_passed pass =
       let each = each_passed (said_mark xs) (length xs) pass in (
         all_low xs (λ i within. (said_mark_passed xs i (each i within)).0),
@@ -93,19 +93,19 @@ module _ (xs : List ℕ) where
         all_sayable xs (λ i within. (said_mark_passed xs i (each i within)).2),
       )
 
-  said_passes : All (λ m. m < 1024) xs → Rising xs → All (λ m. says m ≡ true) xs → said_check xs ≡ None
+  said_passes : AllByRecursion (λ m. m < 1024) xs → Rising xs → AllByRecursion (λ m. says m ≡ true) xs → said_check xs ≡ None
   said_passes low rising sayable =
       all_passed (said_mark xs) (length xs)
       (λ i within. said_mark_passes xs i (none_high xs low i within) (none_unrising xs rising i within) (none_unsayable xs sayable i within))
 
-  proposed_passed : proposed_check xs ≡ None → All (λ m. m < 1024) xs × Rising xs
+  proposed_passed : proposed_check xs ≡ None → AllByRecursion (λ m. m < 1024) xs × Rising xs
   proposed_passed pass =
       let each = each_passed (proposed_mark xs) (length xs) pass in (
         all_low xs (λ i within. (proposed_mark_passed xs i (each i within)).0),
         all_rising xs (λ i within. (proposed_mark_passed xs i (each i within)).1),
       )
 
-  proposed_passes : All (λ m. m < 1024) xs → Rising xs → proposed_check xs ≡ None
+  proposed_passes : AllByRecursion (λ m. m < 1024) xs → Rising xs → proposed_check xs ≡ None
   proposed_passes low rising =
       all_passed (proposed_mark xs) (length xs)
       (λ i within. proposed_mark_passes xs i (none_high xs low i within) (none_unrising xs rising i within))

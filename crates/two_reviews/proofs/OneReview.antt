@@ -1,6 +1,6 @@
 -- One review: its trace is stable, and what may be the next step is told by the trace alone. Assumes nothing.
 use Rattle.std.proofs.Common.{◌≡◌, ℕ, true, ◌↔◌, List, [], ◌∷◌, ◌++◌, is_ok, Result, sym, subst}
-use Rattle.std.specs.List.{AllByRecursion as All}
+use Rattle.std.specs.List.{AllByRecursion}
 use Rattle.std.proofs.ByRecursion.{All-push}
 use Rattle.std.proofs.lemmas.List.{map_push}
 use Rattle.refusals.specs.declared.Told.{Told}
@@ -19,11 +19,11 @@ use Rattle.two_reviews.specs.Law.{Free, Reviewed}
 use Rattle.two_reviews.proofs.Checked.{free_exactly}
 use Rattle.two_reviews.proofs.Standing.{Sound, low_among, low_steps}
 
-module _ (rules : List (Rule ℕ)) (steps : List Step) (each : EachStep rules steps) (low : All Low (marks_of steps))
+module _ (rules : List (Rule ℕ)) (steps : List Step) (each : EachStep rules steps) (low : AllByRecursion Low (marks_of steps))
     (said proposed : List ℕ) (free : Free steps said proposed) where
-  low_more : All Low (marks_of (steps ++ step_by said proposed ∷ []))
+  low_more : AllByRecursion Low (marks_of (steps ++ step_by said proposed ∷ []))
   low_more =
-      subst (All Low) (sym (map_push (λ (s : Step). s.marks) steps (step_by said proposed)))
+      subst (AllByRecursion Low) (sym (map_push (λ (s : Step). s.marks) steps (step_by said proposed)))
       (All-push Low (marks_of steps) (among proposed) low (low_among proposed free.proposed_low))
 
   -- a free proposal passes exactly where the trace is stable with its step standing

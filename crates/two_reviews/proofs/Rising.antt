@@ -1,6 +1,6 @@
 -- Rising lists with the same members are the same list. Assumes nothing.
 use Rattle.std.proofs.Common.{◌≡◌, ℕ, suc, ◌<◌, eqb, ◌⊎◌, List, [], ◌∷◌, sym, refl, subst, ap₂, inl, inr, ⊎_elim, arith}
-use Rattle.std.specs.List.{AllByRecursion as All}
+use Rattle.std.specs.List.{AllByRecursion}
 use Rattle.std.proofs.ByRecursion.{All-weaker}
 use Rattle.std.proofs.lemmas.Bool.{false≢true, or_cases, or_left, or_right, eqb-true, eq-eqb}
 use Rattle.marks.specs.Sets.{◌∈◌, ◌⊆◌, among}
@@ -12,7 +12,7 @@ later_rising : (x : ℕ) (xs : List ℕ) → Rising (x ∷ xs) → Rising xs
 later_rising x xs rising i within = rising (suc i) (omega arith)
 
 -- each number is above the first
-above_first : (x : ℕ) (xs : List ℕ) → Rising (x ∷ xs) → All (λ m. x < m) xs
+above_first : (x : ℕ) (xs : List ℕ) → Rising (x ∷ xs) → AllByRecursion (λ m. x < m) xs
 above_first x [] rising = tt
 above_first x (y ∷ xs) rising =
     let next : x < y = rising 0 (omega arith) in

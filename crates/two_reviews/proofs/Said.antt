@@ -1,7 +1,7 @@
 -- The same was said at each step exactly where the said lists are the same. Assumes nothing.
 use Rattle.std.proofs.Common.{◌≡◌, ℕ, ◌↔◌, List, [], ◌∷◌, map, length, get_or, sym, refl, ap, ◌∙◌, ap₂, arith}
 use mathlib.Core.List.{tail}
-use Rattle.std.specs.List.{AllByRecursion as All}
+use Rattle.std.specs.List.{AllByRecursion}
 use Rattle.marks.specs.Sets.{Set, nothing, among}
 use Rattle.norms.specs.Scenarios.{said_of}
 use Rattle.steps.specs.Compared.{Compares}
@@ -20,7 +20,7 @@ said_by (p ∷ ls) = ap {B = List (Set ℕ)} (λ sets. among p.0 ∷ sets) (said
 pub same_said : (ls ms : List Lists) → SameScenario ls ms → said_of (steps_by ls) ≡ said_of (steps_by ms)
 same_said ls ms same = said_by ls ∙ ap (map among) same ∙ sym (said_by ms)
 
-pub same_scenario : (ls ms : List Lists) → All Entered ls → All Entered ms → said_of (steps_by ls) ≡ said_of (steps_by ms) → SameScenario ls ms
+pub same_scenario : (ls ms : List Lists) → AllByRecursion Entered ls → AllByRecursion Entered ms → said_of (steps_by ls) ≡ said_of (steps_by ms) → SameScenario ls ms
 same_scenario [] [] entered those same = refl
 same_scenario [] (q ∷ ms) entered those same = absurd (let number = ap length same in omega arith)
 same_scenario (p ∷ ls) [] entered those same = absurd (let number = ap length same in omega arith)

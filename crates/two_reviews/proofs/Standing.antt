@@ -2,7 +2,7 @@
 --     Entered p          the lists p of a step passed their checks
 --     Sound rules ls     each step of the lists ls is stable over what it is given, and the lists passed their checks
 use Rattle.std.proofs.Common.{ℕ, ◌<◌, eqb, List, [], ◌∷◌, ◌++◌, take, Ok, Err, Result, sym, refl, subst, arith}
-use Rattle.std.specs.List.{AllByRecursion as All}
+use Rattle.std.specs.List.{AllByRecursion}
 use Rattle.std.proofs.lemmas.List.{map_push, take-map}
 use Rattle.std.proofs.ByRecursion.{All-push, All-take}
 use Rattle.std.proofs.lemmas.Bool.{ne_eqb, or_from, cond_both}
@@ -22,19 +22,19 @@ use Rattle.two_reviews.proofs.Checked.{free_exactly}
 
 pub record Entered (p : Lists) : Type 0 where
   pub rising : Rising p.0
-  pub low : All (λ m. m < 1024) p.1
+  pub low : AllByRecursion (λ m. m < 1024) p.1
 
 pub record Sound (rules : List (Rule ℕ)) (ls : List Lists) : Type 0 where
   pub each : EachStep rules (steps_by ls)
-  pub entered : All Entered ls
+  pub entered : AllByRecursion Entered ls
 
 -- the marks of low lists
-pub low_among : (xs : List ℕ) → All (λ m. m < 1024) xs → Low (among xs)
+pub low_among : (xs : List ℕ) → AllByRecursion (λ m. m < 1024) xs → Low (among xs)
 low_among [] each m high = refl
 low_among (x ∷ xs) each m high =
     or_from (eqb m x) (among xs m) (ne_eqb m x (λ same. omega (arith, each.0))) (low_among xs each.1 m high)
 
-pub low_steps : (ls : List Lists) → All Entered ls → All Low (marks_of (steps_by ls))
+pub low_steps : (ls : List Lists) → AllByRecursion Entered ls → AllByRecursion Low (marks_of (steps_by ls))
 low_steps [] entered = tt
 low_steps (p ∷ ls) entered = (low_among p.1 entered.0.low, low_steps ls entered.1)
 

@@ -1,6 +1,6 @@
 -- Two rows of stable steps over equal rules and the same scenario, under one program. Assumes nothing.
 use Rattle.std.proofs.Common.{◌≡◌, ℕ, suc, ◌<◌, false, ◌≢◌, List, length, sym, ap, ◌∙◌, subst, ⊎_elim}
-use Rattle.std.specs.List.{AllByRecursion as All}
+use Rattle.std.specs.List.{AllByRecursion}
 use Rattle.marks.specs.Sets.{Set, ◌∈◌}
 use Rattle.norms.specs.Programs.{Rule, Stable}
 use Rattle.norms.specs.Rules.{Norms}
@@ -33,7 +33,7 @@ module _ (rules other : List (Rule ℕ)) (equal : Equal rules other) (steps thos
   pub one_trace : Admits (Norms rules) → trace steps ≡ trace those
   one_trace admits = (lawful rules).one_trace admits (said_of steps) (marks_of steps) (marks_of those) same_number each second_each
 
-  module _ (low : All Low (marks_of steps)) (low_other : All Low (marks_of those)) where
+  module _ (low : AllByRecursion Low (marks_of steps)) (low_other : AllByRecursion Low (marks_of those)) where
     abbrev InOne : Set (ℕ × ℕ) → Type 0
     InOne S = Stable (Together (Norms rules) Handing (length (marks_of steps))) (at (said_of steps)) S
 

@@ -10,7 +10,7 @@
 --                         to look, list and show, asked alike
 --     Law                 the whole
 use Rattle.std.specs.Prelude.{◌≡◌, ℕ, suc, ◌<◌, true, false, ◌≢◌, ◌↔◌, List, [], ◌∷◌, ◌++◌, map, length, is_ok, Result, slice_index}
-use Rattle.std.specs.List.{AllByRecursion as All}
+use Rattle.std.specs.List.{AllByRecursion}
 use Rattle.refusals.specs.declared.Told.{Told}
 use Rattle.marks.specs.Sets.{Set, ◌∈◌}
 use Rattle.norms.specs.Programs.{Rule}
@@ -37,10 +37,10 @@ Rising xs = (i : ℕ) → suc i < length xs → slice_index xs i < slice_index x
 
 pub record Free (steps : List Step) (said proposed : List ℕ) : Type 0 where
   pub room : length steps < 64
-  pub said_low : All (λ m. m < 1024) said
+  pub said_low : AllByRecursion (λ m. m < 1024) said
   pub said_rising : Rising said
-  pub sayable : All (λ m. says m ≡ true) said
-  pub proposed_low : All (λ m. m < 1024) proposed
+  pub sayable : AllByRecursion (λ m. says m ≡ true) said
+  pub proposed_low : AllByRecursion (λ m. m < 1024) proposed
   pub proposed_rising : Rising proposed
 
 pub record Reviewed (rules : List (Rule ℕ)) (xs : List Exchange) : Type 0 where

@@ -1,4 +1,4 @@
-use Rattle.std.proofs.Common.{◌≡◌, ◌<◌, true, false, not, get_or, sym, refl, ap, ◌∙◌, arith}
+use Rattle.std.proofs.Common.{◌≡◌, ◌<◌, false, get_or, refl, ap, ◌∙◌, arith}
 use Rattle.marks.specs.Words.{members, with_mark}
 use Rattle.refusals.specs.Telling.{refusal}
 use Rattle.refusals.specs.Checks.{refuse_if}

@@ -4,7 +4,7 @@ use Rattle.refusals.specs.Telling.{refusal}
 use Rattle.refusals.specs.Checks.{refuse_if}
 use Rattle.refusals.specs.Rising.{unrising}
 use Rattle.refusals.proofs.Rising.{is_unrising, is_first, is_rising}
-use Rattle.lists.specs.Lists.{unsayable, says, said_mark}
+use Rattle.lists.specs.Lists.{says, said_mark}
 use Rattle.lists.proofs.Gather.{gather_none, gather_more, gather_stop, gather_all, is_high, is_low, said_high, said_unrising, said_rest}
 use Rattle.lists.proofs.lists.check_said.Goals as goal
 use Rattle.lists.proofs.lists.check_said.Goals.{else-at-gt0-via-then-at-gt0+else-number-before, else-at-gt0-via-else-at-gt0}

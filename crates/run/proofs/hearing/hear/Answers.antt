@@ -1,4 +1,4 @@
-use Rattle.std.proofs.Common.{◌≡◌, Some, None, Ok, Err, Result, sym, refl, ap, ◌∙◌, subst}
+use Rattle.std.proofs.Common.{Some, None, Err, sym, refl, ap, ◌∙◌, subst}
 use Rattle.std.specs.Result.{result_err}
 use Rattle.std.proofs.lemmas.Result.{err_from_is_err_and}
 use Rattle.refusals.specs.Telling.{answered}
@@ -7,7 +7,6 @@ use Rattle.reading.specs.Reads.{ends_at}
 use Rattle.casefile.specs.Faults.{case_told}
 use Rattle.run.specs.Runs.{HearsStep}
 use Rattle.steps.specs.Standing.{standing}
-use Rattle.run.specs.declared.fault.RunFault.{RunFault}
 use Rattle.run.specs.Faults.{run_told}
 use Rattle.run.proofs.Rest.{count_stops, count_goes_on, goes_on, stops, ends}
 use Rattle.run.proofs.hearing.hear.Goals as goal

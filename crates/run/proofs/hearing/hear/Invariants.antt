@@ -1,4 +1,4 @@
-use Rattle.std.proofs.Common.{◌≡◌, ◌-◌, ◌≤◌, List, Option}
+use Rattle.std.proofs.Common.{◌≡◌, ◌-◌, List, Option}
 use Rattle.refusals.specs.declared.Told.{Told}
 use Rattle.casefile.specs.Cases.{case_steps, case_end}
 use Rattle.norms.specs.Steps.{Step}

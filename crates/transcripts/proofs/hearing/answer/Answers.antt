@@ -2,7 +2,7 @@ use Rattle.std.proofs.Common.{sym, ap, ◌∙◌, ap₂, rules}
 use Rattle.refusals.specs.Telling.{answered}
 use Rattle.review.specs.Faults.{propose_told, back_told}
 use Rattle.steps.specs.Standing.{standing}
-use Rattle.transcripts.specs.Asks.{propose, go_back, judged, went_back}
+use Rattle.transcripts.specs.Asks.{propose, judged, went_back}
 use Rattle.transcripts.specs.Hearing.{steps_by, then}
 use Rattle.transcripts.specs.Views.{ask_of}
 use Rattle.transcripts.proofs.Standing.{after_proposal, after_return}

@@ -1,4 +1,4 @@
-use Rattle.std.proofs.Common.{◌≡◌, ◌+◌, ◌<◌, length, get_or, vec_items, sym, refl, ap, ◌∙◌, subst, arith}
+use Rattle.std.proofs.Common.{◌+◌, ◌<◌, length, get_or, vec_items, sym, refl, ap, ◌∙◌, subst, arith}
 use Rattle.steps.specs.Standing.{standing}
 use Rattle.transcripts.specs.Hearing.{Settles}
 use Rattle.transcripts.specs.Views.{ask_of, reply_of}

@@ -1,4 +1,4 @@
-use Rattle.std.proofs.Common.{length, drop, sym, ap, ◌∙◌, subst₂, arith, rules}
+use Rattle.std.proofs.Common.{length, drop, sym, ◌∙◌, subst₂, rules}
 use Rattle.std.proofs.lemmas.List.{take_at}
 use Rattle.steps.specs.Standing.{standing}
 use Rattle.transcripts.specs.Hearing.{Settles}

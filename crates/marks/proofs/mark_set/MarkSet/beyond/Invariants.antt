@@ -1,4 +1,4 @@
-use Rattle.std.proofs.Common.{◌≡◌, ℕ, ◌<◌}
+use Rattle.std.proofs.Common.{ℕ, ◌<◌}
 use Rattle.marks.specs.Sets.{◌∈◌}
 use Rattle.marks.specs.Words.{members}
 use Rattle.marks.proofs.mark_set.MarkSet.beyond.Given as goal

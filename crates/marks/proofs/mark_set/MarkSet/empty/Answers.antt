@@ -1,7 +1,7 @@
 use Rattle.marks.proofs.Held.{held_none}
 use Rattle.marks.proofs.mark_set.MarkSet.empty.Goals as goal
 use Rattle.std.proofs.lemmas.List.{get_or-replicate, get_or_past}
-use Rattle.std.proofs.Common.{◌≡◌, replicate, ⊎_elim}
+use Rattle.std.proofs.Common.{replicate, ⊎_elim}
 use Rattle.std.proofs.lemmas.Bool.{cases_lt}
 
 pub returns : goal.returns

@@ -1,4 +1,4 @@
-use Rattle.std.proofs.Common.{◌≡◌, ◌/◌, ◌%◌, get_or, ap, ◌∙◌}
+use Rattle.std.proofs.Common.{◌/◌, ◌%◌, get_or, ap, ◌∙◌}
 use Rattle.marks.specs.Words.{held}
 use Rattle.marks.proofs.Bits.{bit_read}
 use Rattle.marks.proofs.mark_set.MarkSet.has.Goals as goal

@@ -1,4 +1,4 @@
-use Rattle.std.proofs.Common.{◌≡◌, ℕ, ◌<◌, ◌≢◌, length, get_or, sym, ap, ◌∙◌, ⊎_elim, le_refl, arith, get_or-set_other, get_or-set_same, below_more}
+use Rattle.std.proofs.Common.{◌<◌, ◌≢◌, length, get_or, sym, ap, ◌∙◌, ⊎_elim, le_refl, arith, get_or-set_other, get_or-set_same, below_more}
 use lib.Bits.{bit_or, or_zero_r}
 use Rattle.std.proofs.lemmas.List.{get_or_past}
 use Rattle.std.proofs.lemmas.Bool.{cases_lt}

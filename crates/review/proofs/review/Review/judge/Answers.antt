@@ -1,4 +1,4 @@
-use Rattle.std.proofs.Common.{◌≡◌, ◌+◌, ◌<◌, length, sym, refl, ap, ◌∙◌, arith}
+use Rattle.std.proofs.Common.{◌+◌, ◌<◌, length, ap, ◌∙◌, arith}
 use Rattle.marks.specs.Sets.{among}
 use Rattle.marks.specs.Words.{members}
 use Rattle.lists.specs.Lists.{said_check, proposed_check}

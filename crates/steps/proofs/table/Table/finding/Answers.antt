@@ -1,4 +1,4 @@
-use Rattle.std.proofs.Common.{◌≡◌, ◌+◌, ◌-◌, ◌*◌, ◌≤◌, sym, ap, ◌∙◌, arith}
+use Rattle.std.proofs.Common.{◌-◌, sym, ap, ◌∙◌, arith}
 use Rattle.norms.specs.Findings.{findings_in}
 use Rattle.marks.specs.Words.{members}
 use Rattle.steps.specs.Listed.{listed}

@@ -1,4 +1,4 @@
-use Rattle.std.proofs.Common.{sym, refl, ap, ◌∙◌}
+use Rattle.std.proofs.Common.{sym, ap, ◌∙◌}
 use Rattle.marks.specs.Words.{members}
 use Rattle.norms.specs.Steps.{handed_on}
 use Rattle.steps.proofs.Places.{inherited_standing}

@@ -1,4 +1,4 @@
-use Rattle.std.proofs.Common.{sym, arith}
+use Rattle.std.proofs.Common.{sym}
 use Rattle.steps.proofs.Places.{length_standing}
 use Rattle.steps.proofs.table.Table.len.Goals as goal
 
