@@ -4,6 +4,7 @@ ghost use Rattle.std.specs.Prelude.{◌≡◌, ◌≤◌, length};
 use crate::record::Record;
 
 mod comparing;
+mod going_back;
 mod methods;
 
 // The places, one record each.

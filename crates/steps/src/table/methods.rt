@@ -1,5 +1,5 @@
 // What can be asked of the table and done to it.
-ghost use Rattle.std.specs.Prelude.{◌≡◌, ℕ, ◌+◌, ◌<◌, ◌≤◌, List, [], ◌∷◌, ◌++◌, length, take, IfOk, Result, MatchOption, slice_set};
+ghost use Rattle.std.specs.Prelude.{◌≡◌, ℕ, ◌+◌, ◌<◌, ◌≤◌, List, [], ◌∷◌, ◌++◌, length, IfOk, Result, MatchOption, slice_set};
 ghost use Rattle.marks.specs.Words.{members};
 ghost use Rattle.norms.specs.Steps.{Step, inherited};
 ghost use Rattle.norms.specs.Findings.{findings};
@@ -52,15 +52,6 @@ impl Table {
         self.places.fill(at, said, marks);
         self.count = at + 1;
         Some(at as u8 + 1)
-    }
-
-    // Keeps the first n steps; all of them where there are no more.
-    pub fn truncate(&mut self, n: usize)
-        ensures { standing self.new ≡ take n (standing self.old) }
-    {
-        if n < self.count {
-            self.count = n;
-        }
     }
 
     // What the last step hands on; nothing before the first.
