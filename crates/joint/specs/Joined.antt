@@ -3,7 +3,7 @@
 --     joint_rules a b    the rules of the first book followed by those of the second; where the check refuses them,
 --                        those of the first alone
 --     meant c a b        the same by the answer of the check c: both, or the first alone
---     EitherOrder a b   law: where the check passes, joining in either order gives equal rules
+--     EitherOrder a b    law: where the check passes, joining in either order gives equal rules
 use Rattle.std.specs.Prelude.{◌≡◌, ℕ, ◌+◌, List, ◌++◌, length, Some, None, Option, nat_lt}
 use Rattle.refusals.specs.declared.Told.{Told}
 use Rattle.refusals.specs.Telling.{refusal}

@@ -1,14 +1,14 @@
 -- The laws of the meaning of norms. Assumes nothing.
 -- Of a program, whatever its rules and its kind of mark:
---     OneSmallest P       there is at most one smallest closed set of a proposal over the same given marks
---     RoundsReach P       the set that rounds lead to and a further round leaves as it is, is the smallest closed one
---     OneDepth P          rounds lead to rest in one way: to the same set, after the same number of rounds
---     StableIsSmallest P a proposal is stable exactly when it is the smallest closed set of its own reduct
---     NoneInside P        no stable model over the same given marks is a part of another
---     OneReading P        where the rules admit levels, there is one stable model over the same given marks
---     AllSteps P          whatever is said, each of a row of steps is stable over what it is given exactly when all of
+--     OneSmallest P        there is at most one smallest closed set of a proposal over the same given marks
+--     RoundsReach P        the set that rounds lead to and a further round leaves as it is, is the smallest closed one
+--     OneDepth P           rounds lead to rest in one way: to the same set, after the same number of rounds
+--     StableIsSmallest P   a proposal is stable exactly when it is the smallest closed set of its own reduct
+--     NoneInside P         no stable model over the same given marks is a part of another
+--     OneReading P         where the rules admit levels, there is one stable model over the same given marks
+--     AllSteps P           whatever is said, each of a row of steps is stable over what it is given exactly when all of
 --                          them together are, as one program over dated marks
---     OneTrace P          where the rules admit levels, the same said marks give the same trace
+--     OneTrace P           where the rules admit levels, the same said marks give the same trace
 --     Lawful rules         all of these, of the rules of a book with the frame rules
 -- Of the findings of steps, as dated marks:
 --     Finds steps d        the step of d's number stands, and the mark of d is a finding of it

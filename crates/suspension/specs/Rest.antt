@@ -2,7 +2,7 @@
 --     rest_from ns i rules    of rules that are numbered from i on, those whose number is not among ns, in their order
 --     rest ns rules           the same of rules that are numbered from 0 on
 --     rising_from i ns        each number is above the one before, and the first is at least i
---     NothingAside rules     law: where nothing is set aside, all rules are left
+--     NothingAside rules      law: where nothing is set aside, all rules are left
 --     at_number rules o       the rule of this number, if there is one
 use Rattle.std.specs.Prelude.{◌≡◌, ℕ, ◌+◌, Bool, true, cond, ◌&&◌, List, [], ◌∷◌, Some, None, Option, nat_le}
 use Rattle.std.specs.List.{slice_get}
