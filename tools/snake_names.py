@@ -42,7 +42,7 @@ def declared():
 
 
 # What would fall together with a word of the library.
-OTHERWISE = {"bit-and": "bit-bit_and", "bit-or": "bit-bit_or"}
+OTHERWISE = {"bit-and": "bit_bit_and", "bit-or": "bit_bit_or"}
 
 # Arguments and modules that go by another name in a file, and names that only comments have.
 ALSO = "book-fault name-fault required-of barred-of each-other low-other hand-is to-come then-stand of-a of-b".split()
