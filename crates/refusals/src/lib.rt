@@ -7,13 +7,11 @@ ghost use Rattle.refusals.specs.declared.Section.{Section};
 ghost use Rattle.refusals.specs.declared.Item.{Item};
 ghost use Rattle.refusals.specs.Telling.{section_number, refusal, refusal_in};
 
-// The number of the refusal and its spot. A refusal of a file also has the section and, counted from 0,
-// the item in it; elsewhere these are 0.
-#[derive(Clone, Copy)]
+// The number of the refusal and its spot. A refusal of a file also has the item of the file.
+#[derive(Clone, Copy, PartialEq, Eq, Debug)]
 pub struct Told {
     pub number: u8,
-    pub section: u8,
-    pub item: u16,
+    pub item: Option<Item>,
     pub spot: usize,
 }
 
@@ -25,32 +23,26 @@ pub trait Fault {
         ensures { result ≡ told self.now };
 }
 
-// The sections of the files.
-#[derive(Clone, Copy)]
+// The sections of the files, by their numbers.
+#[derive(Clone, Copy, PartialEq, Eq, Debug)]
 pub enum Section {
-    Rules,
-    Names,
-    End,
-    Case,
-    Series,
+    Rules = 1,
+    Names = 2,
+    End = 3,
+    Case = 4,
+    Series = 5,
 }
 
 impl Section {
     pub fn number(self) -> u8
         ensures { result ≡ section_number self }
     {
-        match self {
-            Section::Rules => 1,
-            Section::Names => 2,
-            Section::End => 3,
-            Section::Case => 4,
-            Section::Series => 5,
-        }
+        self as u8
     }
 }
 
 // An item of a section, counted from 0: a rule, a name, a step.
-#[derive(Clone, Copy)]
+#[derive(Clone, Copy, PartialEq, Eq, Debug)]
 pub struct Item {
     pub section: Section,
     pub item: u16,
@@ -69,8 +61,7 @@ impl Item {
     {
         Told {
             number,
-            section: self.section.number(),
-            item: self.item,
+            item: Some(self),
             spot,
         }
     }
@@ -83,8 +74,7 @@ impl Told {
     {
         Told {
             number,
-            section: 0,
-            item: 0,
+            item: None,
             spot,
         }
     }
