@@ -4,7 +4,7 @@ ghost use Rattle.std.specs.Prelude.{◌<◌};
 mod methods;
 
 // What a mark says of its instance, numbered from 0 to 7 in this order.
-#[derive(Clone, Copy)]
+#[derive(Clone, Copy, PartialEq, Eq, Debug)]
 pub enum Attribute {
     Carried,
     Holds,
@@ -17,13 +17,13 @@ pub enum Attribute {
 }
 
 // One ground fact, act, event or duty, by its number.
-#[derive(Clone, Copy)]
+#[derive(Clone, Copy, PartialEq, Eq, PartialOrd, Ord, Debug)]
 pub struct Instance {
     number: u8,
     ghost low: { number < 128 },
 }
 
-#[derive(Clone, Copy)]
+#[derive(Clone, Copy, PartialEq, Eq, PartialOrd, Ord, Debug)]
 pub struct Mark {
     number: u16,
     ghost low: { number < 1024 },
