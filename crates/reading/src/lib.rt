@@ -2,7 +2,9 @@
 #![tactic(auto)]
 
 mod fault;
+mod number;
 mod reader;
 
 pub use fault::ReadFault;
+pub use number::Number;
 pub use reader::Reader;

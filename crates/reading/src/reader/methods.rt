@@ -1,12 +1,14 @@
 // Reading on, or saying why that is refused. After a refusal the reader is where it was.
-ghost use Rattle.std.specs.Prelude.{◌≡◌, ◌+◌, ◌≤◌, length, is_ok, if◌then◌else◌, slice_index};
+ghost use Rattle.std.specs.Prelude.{◌≡◌, ◌+◌, ◌≤◌, length, is_ok};
 ghost use Rattle.std.specs.Result.{result_map_both};
 ghost use Rattle.refusals.specs.Telling.{answered};
 ghost use Rattle.refusals.specs.Checks.{passes, ◌⨟◌};
 ghost use Rattle.reading.specs.Faults.{read_told};
-ghost use Rattle.reading.specs.Reads.{pair, part, there, at_most, ends_at};
+ghost use Rattle.reading.specs.Moving.{Moved};
+ghost use Rattle.reading.specs.Reads.{part, there, at_most, ends_at};
 
 use crate::fault::ReadFault;
+use crate::number::Number;
 use crate::reader::Reader;
 use refusals::Item;
 
@@ -41,8 +43,7 @@ impl<'a> Reader<'a> {
     // The next n bytes.
     pub fn take(&mut self, n: usize, item: Item) -> Result<&'a [u8], ReadFault>
         ensures answer { answered read_told (result_map_both (λ x. x.now) (λ e. e) result) ≡ passes (part self.old.bytes.now self.old.at n) (there item self.old.bytes.now self.old.at n) }
-        ensures bytes { self.new.bytes.now ≡ self.old.bytes.now }
-        ensures at { self.new.at ≡ (if is_ok result then self.old.at + n else self.old.at) }
+        ensures moved { Moved self.old self.new (is_ok result) (self.old.at + n) }
     {
         self.need(n, item)?;
         let from = self.at;
@@ -51,54 +52,24 @@ impl<'a> Reader<'a> {
         Ok(&bytes[from..from + n])
     }
 
-    // The next byte.
-    pub fn byte(&mut self, item: Item) -> Result<u8, ReadFault>
-        ensures answer { answered read_told result ≡ passes (slice_index self.old.bytes.now self.old.at) (there item self.old.bytes.now self.old.at 1) }
-        ensures bytes { self.new.bytes.now ≡ self.old.bytes.now }
-        ensures at { self.new.at ≡ (if is_ok result then self.old.at + 1 else self.old.at) }
+    // The next number.
+    pub fn number<N: Number>(&mut self, item: Item) -> Result<N, ReadFault>
+        ensures answer { answered read_told result ≡ passes (N.number_at self.old.bytes.now self.old.at) (there item self.old.bytes.now self.old.at N.SIZE) }
+        ensures moved { Moved self.old self.new (is_ok result) (self.old.at + N.SIZE) }
     {
-        self.need(1, item)?;
-        let byte = self.bytes[self.at];
-        self.at += 1;
-        Ok(byte)
+        self.need(N::SIZE, item)?;
+        let number = N::number_at(self.bytes, self.at);
+        self.at += N::SIZE;
+        Ok(number)
     }
 
-    // The next two bytes as a number, the high byte first.
-    pub fn pair(&mut self, item: Item) -> Result<u16, ReadFault>
-        ensures answer { answered read_told result ≡ passes (pair self.old.bytes.now self.old.at) (there item self.old.bytes.now self.old.at 2) }
-        ensures bytes { self.new.bytes.now ≡ self.old.bytes.now }
-        ensures at { self.new.at ≡ (if is_ok result then self.old.at + 2 else self.old.at) }
-    {
-        self.need(2, item)?;
-        let high = self.bytes[self.at];
-        let low = self.bytes[self.at + 1];
-        self.at += 2;
-        Ok(high as u16 * 256 + low as u16)
-    }
-
-    // The next byte as a count, at most this large.
-    pub fn short_count(&mut self, most: u8, item: Item) -> Result<u8, ReadFault>
-        ensures answer { answered read_told result ≡ passes (slice_index self.old.bytes.now self.old.at) (there item self.old.bytes.now self.old.at 1 ⨟ at_most item self.old.at most (slice_index self.old.bytes.now self.old.at)) }
-        ensures bytes { self.new.bytes.now ≡ self.old.bytes.now }
-        ensures at { self.new.at ≡ (if is_ok result then self.old.at + 1 else self.old.at) }
+    // The next number as a count, at most this large.
+    pub fn count<N: Number>(&mut self, most: N, item: Item) -> Result<N, ReadFault>
+        ensures answer { answered read_told result ≡ passes (N.number_at self.old.bytes.now self.old.at) (there item self.old.bytes.now self.old.at N.SIZE ⨟ at_most item self.old.at (N.amount most) (N.amount (N.number_at self.old.bytes.now self.old.at))) }
+        ensures moved { Moved self.old self.new (is_ok result) (self.old.at + N.SIZE) }
     {
         let mut next = *self;
-        let count = next.byte(item)?;
-        if count > most {
-            return Err(ReadFault::TooMany { item, at: self.at });
-        }
-        *self = next;
-        Ok(count)
-    }
-
-    // The next two bytes as a count, at most this large.
-    pub fn count(&mut self, most: u16, item: Item) -> Result<u16, ReadFault>
-        ensures answer { answered read_told result ≡ passes (pair self.old.bytes.now self.old.at) (there item self.old.bytes.now self.old.at 2 ⨟ at_most item self.old.at most (pair self.old.bytes.now self.old.at)) }
-        ensures bytes { self.new.bytes.now ≡ self.old.bytes.now }
-        ensures at { self.new.at ≡ (if is_ok result then self.old.at + 2 else self.old.at) }
-    {
-        let mut next = *self;
-        let number = next.pair(item)?;
+        let number = next.number::<N>(item)?;
         if number > most {
             return Err(ReadFault::TooMany { item, at: self.at });
         }
