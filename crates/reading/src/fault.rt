@@ -4,7 +4,7 @@ ghost use Rattle.reading.specs.Faults.{read_told};
 
 use refusals::{Fault, Item, Section, Told};
 
-#[derive(Clone, Copy)]
+#[derive(Clone, Copy, PartialEq, Eq, Debug)]
 pub enum ReadFault {
     // The bytes end too early; the spot is the file's length.
     Ended { item: Item, length: usize },
