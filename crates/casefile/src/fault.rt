@@ -5,7 +5,7 @@ ghost use Rattle.casefile.specs.Faults.{case_told};
 use reading::ReadFault;
 use refusals::{Fault, Told};
 
-#[derive(Clone, Copy)]
+#[derive(Clone, Copy, PartialEq, Eq, Debug)]
 pub struct CaseFault {
     pub read: ReadFault,
 }

@@ -22,7 +22,7 @@ loop-step-preserved c =
     let step = c.in_ok-read_step.ensures in (
       search rules,
       goes_on bs reader.bytes.now inv.0 c.in_ok-count.count c.loop-step.step reader.at c.loop-step-test.true (case_end bs) inv.1
-          c.read_step.new.reader.at step.answer step.at,
+          c.read_step.new.reader.at step.answer step.moved.at,
     )
 
 pub returns-in_err-read_step : goal.returns-in_err-read_step
