@@ -5,5 +5,5 @@
 mod fault;
 mod lists;
 
-pub use fault::{ProposedFault, SaidFault};
-pub use lists::{check_proposed, check_said};
+pub use fault::{MarksFault, ProposedFault, SaidFault};
+pub use lists::check_list;

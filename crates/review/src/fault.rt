@@ -9,7 +9,7 @@ use lists::{ProposedFault, SaidFault};
 use refusals::{Fault, Told};
 
 // Why a proposed step is refused.
-#[derive(Clone, Copy)]
+#[derive(Clone, Copy, PartialEq, Eq, Debug)]
 pub enum ProposeFault {
     // All 64 places are taken.
     Full,
@@ -22,25 +22,25 @@ pub enum ProposeFault {
 }
 
 // There is no such finding; the spot is how many there are.
-#[derive(Clone, Copy)]
+#[derive(Clone, Copy, PartialEq, Eq, Debug)]
 pub enum ListFault {
     NoSuch { findings: usize },
 }
 
 // Fewer steps stand than are to be kept; the spot is how many there are.
-#[derive(Clone, Copy)]
+#[derive(Clone, Copy, PartialEq, Eq, Debug)]
 pub enum BackFault {
     TooMany { steps: usize },
 }
 
 // No step of this number stands; the spot is how many there are.
-#[derive(Clone, Copy)]
+#[derive(Clone, Copy, PartialEq, Eq, Debug)]
 pub enum StepFault {
     NotStanding { steps: usize },
 }
 
 // Why a look at a mark of a step is refused.
-#[derive(Clone, Copy)]
+#[derive(Clone, Copy, PartialEq, Eq, Debug)]
 pub enum LookFault {
     Step(StepFault),
     // The mark is above 1,023.
@@ -48,7 +48,7 @@ pub enum LookFault {
 }
 
 // Why a step is not shown.
-#[derive(Clone, Copy)]
+#[derive(Clone, Copy, PartialEq, Eq, Debug)]
 pub enum ShowFault {
     Step(StepFault),
     // The list has fewer than sixteen words.

@@ -7,7 +7,7 @@ mod methods;
 mod recalls;
 
 // What is answered of a step that passed: its number, its depth, and how many findings it has.
-#[derive(Clone, Copy)]
+#[derive(Clone, Copy, PartialEq, Eq, Debug)]
 pub struct Accepted {
     pub step: u8,
     pub depth: u16,
@@ -15,7 +15,7 @@ pub struct Accepted {
 }
 
 // What is shown of a step beside its words: how many marks it has, and the lowest of them.
-#[derive(Clone, Copy)]
+#[derive(Clone, Copy, PartialEq, Eq, Debug)]
 pub struct Shown {
     pub marks: u16,
     pub lowest: Option<u16>,
@@ -24,6 +24,7 @@ pub struct Shown {
 // A review over any book. Its calls tell of the book's rules alone, and never change the book.
 #[derive(Drop)]
 pub struct Review<B> {
+    // Kept: each call on `&mut self` says that the book stays, for no type can say that a field never changes.
     book: B,
     steps: Table,
 }

@@ -13,7 +13,7 @@ use crate::fault::ProposeFault;
 use crate::review::{Accepted, Passed, Review};
 use books::Book;
 use closure::close;
-use lists::{check_proposed, check_said};
+use lists::{ProposedFault, SaidFault, check_list};
 use marks::MarkSet;
 use steps::Record;
 
@@ -56,8 +56,8 @@ impl<B: Book> Review<B> {
         if standing >= 64 {
             return Err(ProposeFault::Full);
         }
-        let said = check_said(said)?;
-        let marks = check_proposed(proposed)?;
+        let said = check_list::<SaidFault>(said)?;
+        let marks = check_list::<ProposedFault>(proposed)?;
         let closure = close(&self.book, &marks, &self.given(&said));
         compare(&marks, &closure.marks)?;
         let accepted = Accepted {

@@ -35,6 +35,7 @@ impl<B: Book> Review<B> {
 
     // Accepts the proposed marks as the next step exactly where they are a stable step; otherwise it
     // refuses, and nothing changes.
+    #[tactic(auto, using(crate::proofs::Settling::settled))]
     pub fn propose(&mut self, said: &[u16], proposed: &[u16]) -> Result<Accepted, ProposeFault>
         ensures judged { Judged (B.Book.rules self.old.book) (standing self.old.steps) said.now proposed.now (answered propose_told result) }
         ensures stands { standing self.new.steps ≡ stand_after (standing self.old.steps) said.now proposed.now (answered propose_told result) }
@@ -43,21 +44,21 @@ impl<B: Book> Review<B> {
         ensures refused { OnErr result (self.new ≡ self.old) }
     {
         let passed = self.judge(said, proposed)?;
-        match self.steps.add(passed.said, passed.marks) {
-            Some(_) => Ok(passed.accepted),
-            None => Err(ProposeFault::Full),
-        }
+        self.steps
+            .add(passed.said, passed.marks)
+            .ok_or(ProposeFault::Full)?;
+        Ok(passed.accepted)
     }
 
     // Step and mark of finding k, counted from 0 by step and then by mark.
+    #[tactic(auto, using(norms::proofs::Listing::listed))]
     pub fn list(&self, k: usize) -> Result<(u8, u16), ListFault>
         ensures answer { answered list_told result ≡ listing (standing self.now.steps) k }
         ensures low { IfOk result (λ d. d.1 < 1024) }
         ensures law { Listed (standing self.now.steps) }
     {
-        match self.steps.finding(k) {
-            Ok(finding) => Ok(finding),
-            Err(findings) => Err(ListFault::NoSuch { findings }),
-        }
+        self.steps
+            .finding(k)
+            .map_err(|findings| ListFault::NoSuch { findings })
     }
 }

@@ -22,13 +22,9 @@ use steps::Comparison;
 fn shown(marks: &MarkSet) -> Shown
     ensures { result ≡ shown_of (members marks.now) }
 {
-    let lowest = match lowest(marks) {
-        Some(mark) => Some(mark.number()),
-        None => None,
-    };
     Shown {
         marks: count(marks),
-        lowest,
+        lowest: lowest(marks).map(|mark| mark.number()),
     }
 }
 
@@ -64,10 +60,8 @@ impl<B: Book> Review<B> {
         ensures { answered look_told result ≡ looking (standing self.now.steps) step mark }
     {
         let marks = self.marks_of(step)?;
-        match Mark::new(mark) {
-            Some(mark) => Ok(marks.has(mark)),
-            None => Err(LookFault::High { mark }),
-        }
+        let mark = Mark::new(mark).ok_or(LookFault::High { mark })?;
+        Ok(marks.has(mark))
     }
 
     // Writes the step's sixteen words to the front of the lent ones, and nothing after them.
