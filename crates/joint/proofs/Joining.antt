@@ -1,19 +1,30 @@
 -- The rules of two books that are joined. Assumes nothing.
-use Rattle.std.proofs.Common.{◌≡◌, ℕ, ◌+◌, ◌-◌, ◌<◌, ◌≤◌, ltb, List, ◌++◌, length, Some, None, sym, ap, ◌∙◌, subst₂, arith}
+use Rattle.std.proofs.Common.{◌≡◌, ℕ, ◌+◌, ◌-◌, ◌<◌, ◌≤◌, ltb, List, ◌++◌, length, Some, None, Ok, Err, Option, Result, sym, ap, ◌∙◌, subst₂, arith}
 use Rattle.std.specs.List.{slice_get}
+use Rattle.std.specs.Result.{result_ok}
 use Rattle.std.proofs.iter.runs.Lists.{nth_left, nth_right}
 use Rattle.std.proofs.lemmas.List.{append-nil}
 use Rattle.std.proofs.lemmas.Option.{slice_get_past}
 use Rattle.std.proofs.lemmas.Bool.{le-ltb, ltb-false}
 use Rattle.refusals.specs.declared.Told.{Told}
-use Rattle.refusals.specs.Telling.{refusal}
-use Rattle.refusals.specs.Checks.{where_passes}
+use Rattle.refusals.specs.Telling.{refusal, answered}
+use Rattle.refusals.specs.Checks.{passes, where_passes}
 use Rattle.refusals.proofs.Passed.{test_failed}
-use Rattle.refusals.proofs.Refused.{passed_if}
+use Rattle.refusals.proofs.Refused.{passed_if, passed_by, refused_by}
 use Rattle.norms.specs.Programs.{Rule}
 use Rattle.norms.specs.Equal.{Equal}
 use Rattle.norms.proofs.Equal.{joined}
 use Rattle.joint.specs.Joined.{joint_check, joint_rules, EitherOrder}
+
+-- what `ok` of a call's answer says of its check c
+module _ {E : Type 0} (told : E → Told) where
+  pub ok_passed : (r : Result (Unit {0}) E) (c : Option Told) → answered told r ≡ passes tt c → result_ok r ≡ Some tt → c ≡ None
+  ok_passed (Ok x) c answer ok = passed_by tt x c answer
+  ok_passed (Err e) c answer ok = absurd (let z : ◌≡◌ {A = ℕ} 0 1 = cc in omega arith)
+
+  pub ok_refused : (r : Result (Unit {0}) E) (c : Option Told) → answered told r ≡ passes tt c → result_ok r ≡ None → (t : Told) × (c ≡ Some t)
+  ok_refused (Ok x) c answer ok = absurd (let z : ◌≡◌ {A = ℕ} 0 1 = cc in omega arith)
+  ok_refused (Err e) c answer ok = (told e, refused_by tt c (told e) answer)
 
 module _ (a b : List (Rule ℕ)) where
   pub few_passes : length a + length b ≤ 1024 → joint_check a b ≡ None
@@ -37,8 +48,8 @@ module _ (a b : List (Rule ℕ)) where
         let back : length a + (n - length a) ≡ n = omega arith in
         sym (ap (λ r. slice_get r n) (rules_passed passed) ∙ ap (slice_get (a ++ b)) (sym back) ∙ nth_right a b (n - length a))
 
-    pub place_past : (t : Told) → joint_check a b ≡ Some t → length a ≤ n → None ≡ slice_get (joint_rules a b) n
-    place_past t refused past = sym (ap (λ r. slice_get r n) (rules_refused t refused) ∙ slice_get_past a n past)
+    pub place_past : (t : Told) × (joint_check a b ≡ Some t) → length a ≤ n → None ≡ slice_get (joint_rules a b) n
+    place_past (t, refused) past = sym (ap (λ r. slice_get r n) (rules_refused t refused) ∙ slice_get_past a n past)
 
 pub either_order : (a b : List (Rule ℕ)) → EitherOrder a b
 either_order a b passed =

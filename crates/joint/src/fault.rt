@@ -3,7 +3,7 @@ ghost use Rattle.joint.specs.Faults.{joint_told};
 
 use refusals::{Fault, Told};
 
-#[derive(Clone, Copy)]
+#[derive(Clone, Copy, PartialEq, Eq, Debug)]
 pub enum JointFault {
     // There are more than 1,024 rules in all.
     TooMany,

@@ -8,10 +8,9 @@ pub struct Joint<F, S> {
     second: S,
 }
 
-// Where a rule of a joint book stands: its number in the book that has it, or past the end.
+// Where a rule of a joint book stands: the book that has it, and its number there.
 #[derive(Clone, Copy)]
 pub(crate) enum Place {
     First(usize),
     Second(usize),
-    Past,
 }

@@ -1,12 +1,28 @@
 -- Numbers that pass the check rise. Assumes nothing.
-use Rattle.std.proofs.Common.{◌≡◌, ℕ, suc, ◌+◌, ◌-◌, ◌<◌, ◌≤◌, true, false, ltb, leb, List, [], ◌∷◌, length, get_or, Some, None, Option, sym, refl, ap, subst, ⊎_elim, arith}
-use Rattle.std.proofs.lemmas.Bool.{and_cases, and_from, le-leb, leb-false, ltb-false, or_parts}
+use Rattle.std.proofs.Common.{◌≡◌, ℕ, suc, ◌+◌, ◌-◌, ◌<◌, ◌≤◌, Bool, true, false, not, ltb, leb, List, [], ◌∷◌, length, get_or, Some, None, Option, MatchOption, sym, refl, ap, ◌∙◌, subst, ⊎_elim, arith}
+use Rattle.std.proofs.lemmas.Bool.{cases_lt, and_left, and_right, and_cases, and_from, lt-leb, lt-ltb, le-ltb, le-leb, leb-false, ltb-false, or_parts}
 use Rattle.refusals.specs.declared.Told.{Told}
 use Rattle.refusals.specs.Checks.{where_passes}
 use Rattle.refusals.specs.Rising.{unrising}
 use Rattle.refusals.proofs.Passed.{before_passed, after_passed, each_passed, test_failed}
 use Rattle.suspension.specs.Checks.{number_check, suspension_check}
 use Rattle.suspension.specs.Rest.{rising_from}
+
+-- the number before the one at i, if there is one
+abbrev pub Before : List ℕ → ℕ → Option ℕ → Type 0
+Before xs i before = MatchOption before (i ≡ 0) (λ low. (0 < i) × (low ≡ get_or xs (i - 1) 0))
+
+-- the number at i is above it, where r is true
+abbrev pub Above : List ℕ → ℕ → Option ℕ → Bool → Type 0
+Above xs i before r = MatchOption before (r ≡ true) (λ low. r ≡ ltb low (get_or xs i 0))
+
+pub is_rising : (xs : List ℕ) (i : ℕ) (before : Option ℕ) (r : Bool) → Before xs i before → Above xs i before r → unrising xs i ≡ not r
+is_rising xs i None r first up = and_left (ltb 0 i) (leb (get_or xs i 0) (get_or xs (i - 1) 0)) (le-ltb 0 i (omega arith)) ∙ sym (ap not up)
+is_rising xs i (Some low) r later up =
+    ⊎_elim
+    (λ less. and_right (ltb 0 i) (leb (get_or xs i 0) (get_or xs (i - 1) 0)) (lt-leb (get_or xs i 0) (get_or xs (i - 1) 0) (omega (arith, later.1))) ∙ sym (ap not (up ∙ lt-ltb low (get_or xs i 0) less)))
+    (λ more. and_from (ltb 0 i) (leb (get_or xs i 0) (get_or xs (i - 1) 0)) (lt-ltb 0 i later.0) (le-leb (get_or xs i 0) (get_or xs (i - 1) 0) (omega (arith, later.1))) ∙ sym (ap not (up ∙ le-ltb low (get_or xs i 0) more)))
+    (cases_lt low (get_or xs i 0))
 
 -- each number is above the one before
 abbrev Rises : List ℕ → Type 0

@@ -12,15 +12,13 @@ use books::Book;
 fn check_numbers(numbers: &[u16], count: usize) -> Result<(), SuspensionFault>
     ensures { answered suspension_told result ≡ passes tt (first_below (length numbers.now) (number_check count numbers.now)) }
 {
-    let mut before = 0;
+    let mut before = None;
     for (at, number) in numbers.iter().enumerate() {
-        if at > 0 && *number <= before {
+        let rises = before.is_none_or(|low| low < *number);
+        if !rises || usize::from(*number) >= count {
             return Err(SuspensionFault::Number { at });
         }
-        if usize::from(*number) >= count {
-            return Err(SuspensionFault::Number { at });
-        }
-        before = *number;
+        before = Some(*number);
     }
     Ok(())
 }

@@ -3,7 +3,7 @@ ghost use Rattle.suspension.specs.Faults.{suspension_told};
 
 use refusals::{Fault, Told};
 
-#[derive(Clone, Copy)]
+#[derive(Clone, Copy, PartialEq, Eq, Debug)]
 pub enum SuspensionFault {
     // There are more than 16 numbers; the spot is how many.
     TooMany { count: usize },

@@ -20,18 +20,16 @@ impl<F: Book, S: Book> Joint<F, S> {
         Joint { first, second }
     }
 
-    // Where rule n stands.
-    fn place(&self, n: usize) -> Place
+    // Where rule n stands, if there is one.
+    fn place(&self, n: usize) -> Option<Place>
         ensures { at_place (F.Book.rules self.now.first) (S.Book.rules self.now.second) result ≡ slice_get (joint_rules (F.Book.rules self.now.first) (S.Book.rules self.now.second)) n }
     {
         let before = self.first.len();
         if n < before {
-            return Place::First(n);
+            return Some(Place::First(n));
         }
-        match check_joint(&self.first, &self.second) {
-            Ok(()) => Place::Second(n - before),
-            Err(_) => Place::Past,
-        }
+        check_joint(&self.first, &self.second).ok()?;
+        Some(Place::Second(n - before))
     }
 }
 
@@ -48,26 +46,23 @@ impl<F: Book, S: Book> Book for Joint<F, S> {
     }
 
     fn head(&self, n: usize) -> Option<Mark> {
-        match self.place(n) {
+        match self.place(n)? {
             Place::First(k) => self.first.head(k),
             Place::Second(k) => self.second.head(k),
-            Place::Past => None,
         }
     }
 
     fn counts(&self, n: usize) -> Option<(u8, u8)> {
-        match self.place(n) {
+        match self.place(n)? {
             Place::First(k) => self.first.counts(k),
             Place::Second(k) => self.second.counts(k),
-            Place::Past => None,
         }
     }
 
     fn body(&self, n: usize, k: usize) -> Option<Mark> {
-        match self.place(n) {
+        match self.place(n)? {
             Place::First(at) => self.first.body(at, k),
             Place::Second(at) => self.second.body(at, k),
-            Place::Past => None,
         }
     }
 }

@@ -1,5 +1,5 @@
 // The questions that a book answers, from a book and the numbers of the rules that are set aside.
-ghost use Rattle.std.specs.Prelude.{◌≡◌, length};
+ghost use Rattle.std.specs.Prelude.{◌≡◌, ◌+◌, length};
 ghost use Rattle.std.specs.List.{slice_get};
 ghost use Rattle.refusals.specs.Checks.{where_passes};
 ghost use Rattle.suspension.specs.Checks.{suspension_check};
@@ -11,16 +11,6 @@ use crate::suspension::Suspension;
 use books::Book;
 use marks::Mark;
 
-// The numbers; none where the check refuses them.
-fn checked<'a, B: Book>(book: &B, numbers: &'a [u16]) -> &'a [u16]
-    ensures { result.now ≡ where_passes (suspension_check (length (B.Book.rules book.now)) numbers.now) numbers.now }
-{
-    match check_suspension(book, numbers) {
-        Ok(()) => numbers,
-        Err(_) => &numbers[..0],
-    }
-}
-
 impl<'a, B: Book> Suspension<'a, B> {
     // The book without the rules of these numbers. Where the check refuses them, nothing is set aside.
     pub fn new(book: B, numbers: &'a [u16]) -> Suspension<'a, B>
@@ -28,7 +18,7 @@ impl<'a, B: Book> Suspension<'a, B> {
         ensures numbers { result.numbers.now ≡ where_passes (suspension_check (length (B.Book.rules book)) numbers.now) numbers.now }
         ensures law { NothingAside (B.Book.rules book) }
     {
-        let numbers = checked(&book, numbers);
+        let numbers = check_suspension(&book, numbers).map_or(&numbers[..0], |()| numbers);
         Suspension { book, numbers }
     }
 
@@ -39,6 +29,7 @@ impl<'a, B: Book> Suspension<'a, B> {
         if n >= self.book.len() {
             return None;
         }
+        // Kept: a fold is no plainer, since each test reads the number so far.
         let mut at = n;
         for aside in self.numbers {
             if usize::from(*aside) <= at {
@@ -46,6 +37,17 @@ impl<'a, B: Book> Suspension<'a, B> {
             }
         }
         Some(at)
+    }
+
+    // How many rules of the book below are set aside.
+    fn aside(&self) -> usize
+        ensures { length (rest self.now.numbers.now (B.Book.rules self.now.book)) + result ≡ length (B.Book.rules self.now.book) }
+    {
+        let all = self.book.len();
+        self.numbers
+            .iter()
+            .filter(|number| usize::from(**number) < all)
+            .count()
     }
 }
 
@@ -55,14 +57,7 @@ impl<B: Book> Book for Suspension<'_, B> {
     ghost sound = { λ s. sound_rest s.numbers.now (B.Book.rules s.book) (B.Book.sound s.book) };
 
     fn len(&self) -> usize {
-        let all = self.book.len();
-        let mut left = all;
-        for aside in self.numbers {
-            if usize::from(*aside) < all {
-                left -= 1;
-            }
-        }
-        left
+        self.book.len() - self.aside()
     }
 
     fn head(&self, n: usize) -> Option<Mark> {
