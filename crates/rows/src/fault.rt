@@ -6,7 +6,7 @@ ghost use Rattle.rows.specs.declared.fault.RowFault.TheVariants.{Read};
 use reading::ReadFault;
 use refusals::{Fault, Item, Told};
 
-#[derive(Clone, Copy)]
+#[derive(Clone, Copy, PartialEq, Eq, Debug)]
 pub enum RowFault {
     // The whole row is not there.
     Read(ReadFault),

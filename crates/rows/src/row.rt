@@ -1,99 +1,61 @@
-// The check of a row. The spots are offsets in the file; the row stands at `at`.
-ghost use Rattle.std.specs.Prelude.{◌≡◌, ◌+◌, ◌-◌, ◌*◌, ◌^◌, ◌<◌, ◌≤◌, ◌||◌, is_ok, if◌then◌else◌, ◌==◌, nat_lt};
-ghost use Rattle.refusals.specs.Telling.{answered, refusal_in};
-ghost use Rattle.refusals.specs.Checks.{refuse_if, passes, ◌⨟◌, first_below};
-ghost use Rattle.marks.specs.Numbers.{attribute, carried, breached};
-ghost use Rattle.rows.specs.Faults.{row_told};
-ghost use Rattle.rows.specs.Rows.{head, body_count, mark_check, zero_check, row_check, row_check_at};
+// The row form of a rule, over its bytes. Past their end all bytes are zero.
+ghost use Rattle.std.specs.Prelude.{◌≡◌, ◌<◌};
+ghost use Rattle.rows.specs.Rows.{head, required_count, barred_count, body_count, mark_at};
 
-use crate::fault::RowFault;
-use crate::peek::{byte_at, pair_at};
-use reading::Reader;
-use refusals::Item;
+use reading::Number;
 
-// Whether the next 32 bytes are the row of a rule. The reader moves past them only if they are.
-pub fn check_row(reader: &mut Reader<'_>, item: Item) -> Result<(), RowFault>
-    ensures answer { answered row_told result ≡ passes tt (row_check_at item reader.old.bytes.now reader.old.at) }
-    ensures bytes { reader.new.bytes.now ≡ reader.old.bytes.now }
-    ensures at { reader.new.at ≡ (if is_ok result then reader.old.at + 32 else reader.old.at) }
-{
-    let at = reader.at();
-    let mut next = *reader;
-    let row = next.take(32, item)?;
-    check_parts(row, item, at)?;
-    *reader = next;
-    Ok(())
+mod check;
+
+pub use check::check_row;
+
+#[derive(Clone, Copy)]
+pub struct Row<'a> {
+    bytes: &'a [u8],
 }
 
-fn check_parts(row: &[u8], item: Item, at: usize) -> Result<(), RowFault>
-    requires { at + 32 < 2 ^ 64 }
-    ensures { answered row_told result ≡ passes tt (row_check item at row.now) }
-{
-    check_head(row, item, at)?;
-    check_count(row, item, at)?;
-    check_marks(row, item, at)?;
-    check_unused(row, item, at)
-}
-
-fn check_head(row: &[u8], item: Item, at: usize) -> Result<(), RowFault>
-    ensures { answered row_told result ≡ passes tt (refuse_if (nat_lt 1023 (head row.now)) (refusal_in item 4 at) ⨟ refuse_if (attribute (head row.now) == carried || attribute (head row.now) == breached) (refusal_in item 5 at)) }
-{
-    let head = pair_at(row, 0);
-    if head > 1023 {
-        return Err(RowFault::HeadHigh { item, at });
+impl<'a> Row<'a> {
+    pub fn new(bytes: &'a [u8]) -> Row<'a>
+        ensures { result.bytes.now ≡ bytes.now }
+    {
+        Row { bytes }
     }
-    if head % 8 == 0 || head % 8 == 7 {
-        return Err(RowFault::HeadKind { item, at });
+
+    pub fn head(&self) -> u16
+        ensures { result ≡ head self.now.bytes.now }
+    {
+        u16::number_at(self.bytes, 0)
     }
-    Ok(())
-}
 
-// How many body marks the row says that it has.
-pub fn body_count(row: &[u8]) -> usize
-    ensures value { result ≡ body_count row.now }
-    ensures low { result < 511 }
-{
-    byte_at(row, 2) as usize + byte_at(row, 3) as usize
-}
-
-fn check_count(row: &[u8], item: Item, at: usize) -> Result<(), RowFault>
-    requires { at + 2 < 2 ^ 64 }
-    ensures { answered row_told result ≡ passes tt (refuse_if (nat_lt 14 (body_count row.now)) (refusal_in item 3 (at + 2))) }
-{
-    if body_count(row) > 14 {
-        return Err(RowFault::TooMany { item, at: at + 2 });
+    // How many marks the row says that it requires.
+    pub fn required(&self) -> u8
+        ensures { result ≡ required_count self.now.bytes.now }
+    {
+        u8::number_at(self.bytes, 2)
     }
-    Ok(())
-}
 
-fn check_marks(row: &[u8], item: Item, at: usize) -> Result<(), RowFault>
-    requires { (at + 32 < 2 ^ 64) × (body_count row.now ≤ 14) }
-    ensures { answered row_told result ≡ passes tt (first_below (body_count row.now) (mark_check item at row.now)) }
-{
-    for k in 0..body_count(row) {
-        if pair_at(row, 4 + 2 * k) > 1023 {
-            return Err(RowFault::MarkHigh {
-                item,
-                at: at + 4 + 2 * k,
-            });
+    // How many marks the row says that it bars.
+    pub fn barred(&self) -> u8
+        ensures { result ≡ barred_count self.now.bytes.now }
+    {
+        u8::number_at(self.bytes, 3)
+    }
+
+    // How many body marks the row says that it has.
+    pub fn body_count(&self) -> usize
+        ensures value { result ≡ body_count self.now.bytes.now }
+        ensures low { result < 511 }
+    {
+        usize::from(self.required()) + usize::from(self.barred())
+    }
+
+    // The body mark k.
+    pub fn mark(&self, k: usize) -> u16
+        ensures { result ≡ mark_at self.now.bytes.now k }
+    {
+        if k < self.bytes.len() / 2 {
+            u16::number_at(self.bytes, 4 + 2 * k)
+        } else {
+            0
         }
     }
-    Ok(())
-}
-
-fn check_unused(row: &[u8], item: Item, at: usize) -> Result<(), RowFault>
-    requires { (at + 32 < 2 ^ 64) × (body_count row.now ≤ 14) }
-    ensures { answered row_told result ≡ passes tt (first_below (28 - 2 * body_count row.now) (zero_check item at row.now)) }
-{
-    let from = 4 + 2 * body_count(row);
-    for k in 0..32 - from {
-        let place = from + k;
-        if byte_at(row, place) > 0 {
-            return Err(RowFault::Unused {
-                item,
-                at: at + place,
-            });
-        }
-    }
-    Ok(())
 }
