@@ -3,14 +3,19 @@ use Rattle.std.proofs.Common.{◌≡◌, ℕ, ◌-◌, ◌/◌, ◌%◌, ◌^◌
 use mathlib.Core.Path.{fun_ext}
 use lib.Bits.{bit_and, bit_or}
 use Rattle.std.proofs.lemmas.List.{get_or-set_same, get_or-set_other, get_or_past}
-use Rattle.std.proofs.lemmas.Bool.{cases_eq, eq-eqb, ne_eqb}
-use Rattle.marks.specs.Sets.{nothing, either, beyond}
+use Rattle.std.proofs.lemmas.Bool.{cases_eq, cases_lt, eq-eqb, ne_eqb, true≢false}
+use Rattle.marks.specs.Sets.{Set, nothing, either, beyond, ◌∈◌, ◌⊆◌}
 use Rattle.marks.specs.Words.{bit, held, with_mark}
 use Rattle.marks.proofs.Bits.{bit_bit_or, bit_bit_and, bit_not, bit_one, bit_zero}
 
 pub held_past : (ws : List ℕ) → length ws ≡ 16 → (m : ℕ) → 1024 ≤ m → held ws m ≡ false
 unfolding held
 held_past ws l m h = ap (λ w. bit w (m % 64)) (get_or_past ws (m / 64) 0 (omega arith)) ∙ bit_zero (m % 64)
+
+-- a set of words is within another where its marks below 1,024 are
+pub held_within : (ws : List ℕ) → length ws ≡ 16 → (R : Set ℕ) → ((m : ℕ) → m < 1024 → m ∈ held ws → m ∈ R) → held ws ⊆ R
+held_within ws l R low m here =
+    ⊎_elim (λ below. low m below here) (λ past. absurd (true≢false (sym here ∙ held_past ws l m past))) (cases_lt m 1024)
 
 pub held_none : (ws : List ℕ) → ((k : ℕ) → get_or ws k 0 ≡ 0) → held ws ≡ nothing
 unfolding held

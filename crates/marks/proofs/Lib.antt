@@ -1,5 +1,6 @@
 pub mod Bits
 pub mod Counted
 pub mod Held
+pub mod InARow
 pub mod Numbers
 pub mod Words

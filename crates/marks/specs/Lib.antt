@@ -3,3 +3,4 @@ pub mod Numbers
 pub mod Words
 pub mod Attributes
 pub mod Members
+pub mod Numbered

@@ -1,9 +1,12 @@
 // From numbers to instances, attributes and marks, and back.
-ghost use Rattle.std.specs.Prelude.{◌≡◌, ◌+◌, ◌*◌, ◌/◌, ◌%◌, ◌<◌, ◌≤◌, MatchOption};
+ghost use Rattle.std.specs.Prelude.{◌≡◌, ◌+◌, ◌*◌, ◌/◌, ◌%◌, ◌<◌, ◌≤◌, ◌^◌, MatchOption};
 ghost use Rattle.marks.specs.Numbers.{mark, instance, attribute};
 ghost use Rattle.marks.specs.Attributes.{attribute_number};
+ghost use Rattle.std.proofs.Common.{refl};
+ghost use Rattle.std.proofs.lemmas.Bool.{ltb-true};
 
 use crate::mark::{Attribute, Instance, Mark};
+use crate::numbered::Numbered;
 
 impl Attribute {
     pub fn number(self) -> u8
@@ -92,5 +95,33 @@ impl Mark {
             6 => Attribute::Violated,
             _ => Attribute::Breached,
         }
+    }
+}
+
+impl Numbered for Instance {
+    ghost number = { λ i. i.number };
+
+    ghost end = { 128 };
+
+    ghost low = { ltb-true 128 (2 ^ 16) refl };
+
+    ghost within = { λ i. i.low };
+
+    fn numbered(n: u16) -> Option<Instance> {
+        Instance::new(u8::try_from(n).ok()?)
+    }
+}
+
+impl Numbered for Mark {
+    ghost number = { λ m. m.number };
+
+    ghost end = { 1024 };
+
+    ghost low = { ltb-true 1024 (2 ^ 16) refl };
+
+    ghost within = { λ m. m.low };
+
+    fn numbered(n: u16) -> Option<Mark> {
+        Mark::new(n)
     }
 }

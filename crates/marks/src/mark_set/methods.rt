@@ -6,6 +6,7 @@ ghost use Rattle.marks.specs.Members.{words_of};
 
 use crate::mark::Mark;
 use crate::mark_set::MarkSet;
+use crate::numbered::Numbered;
 
 impl MarkSet {
     pub fn empty() -> MarkSet
@@ -41,14 +42,7 @@ impl MarkSet {
     pub fn beyond(&self, other: &MarkSet) -> Option<Mark>
         ensures { MatchOption result (members self.now ⊆ members other.now) (λ m. (m.number ∈ members self.now) × (members other.now m.number ≡ false)) }
     {
-        for n in 0..1024 {
-            if let Some(mark) = Mark::new(n) {
-                if self.has(mark) && !other.has(mark) {
-                    return Some(mark);
-                }
-            }
-        }
-        None
+        Mark::all().find(|mark| self.has(*mark) && !other.has(*mark))
     }
 
     // The marks of this set that the other lacks.
