@@ -1,5 +1,5 @@
 -- Marks of two bytes. Assumes nothing.
-use Rattle.std.proofs.Common.{◌≡◌, ℕ, zero, suc, ◌+◌, ◌*◌, ◌/◌, ◌<◌, ◌≤◌, List, [], ◌++◌, map, length, get_or, take, drop, sym, refl, ap, ◌∙◌, add-zero, arith, length-take}
+use Rattle.std.proofs.Common.{◌≡◌, ℕ, zero, suc, ◌+◌, ◌*◌, ◌/◌, ◌<◌, ◌≤◌, List, [], ◌++◌, map, length, get_or, take, drop, sym, refl, ap, ◌∙◌, add-zero, arith}
 use Rattle.std.specs.List.{range_with_len, flat_map}
 use Rattle.std.specs.Int.{w16, from_be_bytes}
 use Rattle.std.specs.Simd.{first_chunks}
@@ -23,9 +23,6 @@ chunk_number n k bs d h =
     let high : get_or (take 2 (drop i bs)) 0 0 ≡ get_or bs i 0 = get_or-take 2 (drop i bs) 0 0 (omega arith) ∙ get_or-drop i bs 0 0 ∙ ap (λ j. get_or bs j 0) (add-zero i) in
     let low : get_or (take 2 (drop i bs)) 1 0 ≡ get_or bs (i + 1) 0 = get_or-take 2 (drop i bs) 1 0 (omega arith) ∙ get_or-drop i bs 1 0 in
     ap (from_be_bytes w16) (chunk_at n k bs d h) ∙ omega arith
-
-pub length_part : (bs : List ℕ) (i n : ℕ) → length (part bs i n) ≤ n
-length_part bs i n = simp length-take (omega arith)
 
 -- marks are read back from their bytes
 pub marks_back : (ms : List ℕ) → marks_in (flat_map byte_pair ms) ≡ ms

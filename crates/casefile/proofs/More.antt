@@ -1,36 +1,22 @@
 -- A case file, one step more. Assumes nothing.
-use Rattle.std.proofs.Common.{◌≡◌, ℕ, ◌+◌, ◌-◌, ◌<◌, List, [], ◌∷◌, Some, None, Ok, Err, Option, Result, sym, refl, ap, ◌∙◌, add-one, arith}
+use Rattle.std.proofs.Common.{◌≡◌, ℕ, ◌+◌, ◌-◌, ◌<◌, List, Some, None, Ok, Err, Option, Result, sym, refl, ap, ◌∙◌, add-one, arith}
 use Rattle.refusals.specs.declared.Told.{Told}
-use Rattle.refusals.specs.Checks.{◌⨟◌, passes, where_passes}
+use Rattle.refusals.specs.Checks.{◌⨟◌, passes}
 use Rattle.refusals.proofs.Refused.{passed_by, refused_by}
 use Rattle.reading.specs.Reads.{ends_at}
-use Rattle.casefile.specs.Cases.{said_at, proposed_at, after_step, step_check, case_step, steps_from, end_from}
+use Rattle.casefile.specs.Cases.{after_step, step_check, case_step, end_from}
 
 module _ (bs : List ℕ) where
   -- no step more
-  pub steps_none : (k i : ℕ) → steps_from bs 0 k i ≡ []
-  unfolding steps_from
-  steps_none k i = refl
-
   pub end_none : (k i : ℕ) → end_from bs 0 k i ≡ ends_at bs i
   unfolding end_from
   end_none k i = refl
 
   -- step k, the first of m steps that are still to come, and the n after it
   module _ (m n k i : ℕ) (more : m ≡ n + 1) where
-    next_steps : steps_from bs m k i ≡ where_passes (step_check (case_step k) bs i) ((said_at bs i, proposed_at bs i) ∷ steps_from bs n (k + 1) (after_step bs i))
-    unfolding steps_from
-    next_steps = ap (λ x. steps_from bs x k i) (more ∙ add-one n)
-
     next_end : end_from bs m k i ≡ (step_check (case_step k) bs i ⨟ end_from bs n (k + 1) (after_step bs i))
     unfolding end_from
     next_end = ap (λ x. end_from bs x k i) (more ∙ add-one n)
-
-    pub steps_more : step_check (case_step k) bs i ≡ None → steps_from bs m k i ≡ (said_at bs i, proposed_at bs i) ∷ steps_from bs n (k + 1) (after_step bs i)
-    steps_more e = next_steps ∙ rw e
-
-    pub steps_refused : {t : Told} → step_check (case_step k) bs i ≡ Some t → steps_from bs m k i ≡ []
-    steps_refused e = next_steps ∙ rw e
 
     pub end_more : step_check (case_step k) bs i ≡ None → end_from bs m k i ≡ end_from bs n (k + 1) (after_step bs i)
     end_more e = next_end ∙ rw e

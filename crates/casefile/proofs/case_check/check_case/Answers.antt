@@ -8,12 +8,6 @@ use Rattle.casefile.proofs.More.{end_none, goes_on, stops}
 use Rattle.casefile.proofs.Law.{call_law, steps_read}
 use Rattle.casefile.proofs.case_check.check_case.Goals as goal
 
-pub returns-in_err-count : goal.returns-in_err-count
-returns-in_err-count c =
-    let bs = c.args.bytes.now in
-    let answer : answered case_told c.from_residual.result ≡ passes tt (case_end bs) = search rules in
-    record { answer = answer; law = call_law c.from_residual.result bs (λ i. let f = c.type_inv.bytes i in omega arith) answer; meant = steps_read bs }
-
 pub loop-step-preserved : goal.loop-step-preserved
 loop-step-preserved c =
     let bs = c.args.bytes.now in

@@ -30,9 +30,9 @@ loop-step-init g c =
     let reader = c.new-reader.result in
     let read = c.in_ok-steps.ensures in (
       refl,
-      read.bytes ∙ c.new-reader.ensures.bytes,
+      read.moved.bytes ∙ c.new-reader.ensures.bytes,
       count_goes_on (g.B.Book.rules review.book) c.args.case.now reader.bytes.now reader.at (standing review.steps)
-          c.new-reader.ensures.bytes c.new-reader.ensures.at c.in_ok-steps.steps c.read_count.new.reader.at read.answer read.at,
+          c.new-reader.ensures.bytes c.new-reader.ensures.at c.in_ok-steps.steps c.read_count.new.reader.at read.answer read.moved.at,
     )
 
 pub returns-in_err-hear_step : goal.returns-in_err-hear_step
