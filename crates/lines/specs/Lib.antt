@@ -1,4 +1,4 @@
 pub mod Text
-pub mod Digits
+pub mod Writing
 pub mod Faults
 pub mod Parts

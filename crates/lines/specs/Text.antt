@@ -5,9 +5,11 @@
 --     unnamed i                        what stands for the name of instance i where it has none
 --     steps_line n                     the last line of a case that was read whole
 --     refused_line number spot         the last line of a case that was refused
---     put_at at xs old                 what a buffer holds that held old, once xs is written from at on
---     written xs old                   the same from the front on
-use Rattle.std.specs.Prelude.{ℕ, ◌+◌, Bool, cond, List, [], ◌∷◌, ◌++◌, length, take, drop, codes, decimal}
+--     joined pieces                    the pieces, one after another
+--     written xs old                   what a buffer holds that held old, once xs is written from the front on
+use Rattle.std.specs.Prelude.{ℕ, Bool, cond, List, [], ◌∷◌, ◌++◌, length, drop, codes, decimal}
+use Rattle.std.specs.List.{flat_map}
+use Rattle.std.specs.Borrow.{Bor}
 
 abbrev pub rest_of_line : List (List ℕ) → List ℕ
 rest_of_line [] = 10 ∷ []
@@ -28,8 +30,8 @@ steps_line n = line_of (codes "steps") (decimal n ∷ [])
 abbrev pub refused_line : ℕ → ℕ → List ℕ
 refused_line number spot = line_of (codes "refused") (decimal number ∷ decimal spot ∷ [])
 
-abbrev pub put_at : ℕ → List ℕ → List ℕ → List ℕ
-put_at at xs old = take at old ++ (xs ++ drop (at + length xs) old)
+abbrev pub joined : List (Bor (List ℕ)) → List ℕ
+joined pieces = flat_map (λ piece. piece.now) pieces
 
 abbrev pub written : List ℕ → List ℕ → List ℕ
 written xs old = xs ++ drop (length xs) old

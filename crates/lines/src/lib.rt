@@ -1,10 +1,9 @@
 // The lines of a report, written into a lent buffer.
 #![tactic(auto)]
 
-mod digits;
 mod fault;
+mod pieces;
 mod report;
-mod words;
 
 pub use fault::Short;
 pub use report::{Name, Word, write_finding, write_refused, write_steps};
