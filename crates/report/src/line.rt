@@ -5,11 +5,11 @@ ghost use Rattle.refusals.specs.Telling.{answered};
 ghost use Rattle.bookfile.specs.Views.{name_list};
 ghost use Rattle.lines.specs.Faults.{short_told};
 ghost use Rattle.lines.specs.Parts.{is_breach, name_text};
-ghost use Rattle.lines.specs.Text.{written};
+ghost use Rattle.lines.specs.Writing.{Writes};
 ghost use Rattle.marks.specs.Numbers.{attribute, breached};
+ghost use Rattle.review.specs.Listings.{listing};
 ghost use Rattle.steps.specs.Standing.{standing};
-ghost use Rattle.report.specs.Faults.{line_told};
-ghost use Rattle.report.specs.Report.{name_or_number, line_answer, line_written, last_text, room_answer, if_room};
+ghost use Rattle.report.specs.Report.{name_or_number, last_text, WritesFound};
 
 use crate::fault::LineFault;
 use bookfile::Names;
@@ -33,10 +33,7 @@ fn word_of(mark: Mark) -> Word
 fn name_of<'a>(names: &Names<'a>, instance: Instance) -> Name<'a>
     ensures { name_text result ≡ name_or_number (name_list names.now) instance.number }
 {
-    match names.name(instance) {
-        Some(name) => Name::Given(name),
-        None => Name::Unnamed(instance.number()),
-    }
+    names.name(instance).map_or(Name::Unnamed(instance.number()), Name::Given)
 }
 
 // Writes the line of finding k, counted from 0, and answers how many bytes it has.
@@ -46,9 +43,8 @@ pub fn report_line<B: Book>(
     names: &Names<'_>,
     buffer: &mut [u8],
 ) -> Result<usize, LineFault>
-    ensures answer { answered line_told result ≡ line_answer (standing review.now.steps) (name_list names.now) k (length buffer.old) }
+    ensures written { WritesFound (name_list names.now) (listing (standing review.now.steps) k) buffer.old buffer.new result }
     ensures within { IfOk result (λ n. n ≤ length buffer.old) }
-    ensures text { buffer.new ≡ line_written (standing review.now.steps) (name_list names.now) k buffer.old }
 {
     let (step, number) = review.list(k)?;
     let Some(mark) = Mark::new(number) else {
@@ -63,9 +59,7 @@ pub fn last_line<B: Book, F: Fault>(
     outcome: &Result<(), F>,
     buffer: &mut [u8],
 ) -> Result<usize, Short>
-    ensures answer { answered short_told result ≡ room_answer (last_text (standing review.now.steps) (result_err (answered F.Fault.told outcome.now))) (length buffer.old) }
-    ensures within { IfOk result (λ n. n ≤ length buffer.old) }
-    ensures text { buffer.new ≡ if_room (answered short_told result) (written (last_text (standing review.now.steps) (result_err (answered F.Fault.told outcome.now))) buffer.old) buffer.old }
+    ensures { Writes short_told (last_text (standing review.now.steps) (result_err (answered F.Fault.told outcome.now))) buffer.old buffer.new result }
 {
     match outcome {
         Ok(()) => write_steps(buffer, review.steps() as u8),
