@@ -16,32 +16,8 @@ const LINE: usize = 64;
 // The bytes of a file; a missing one is empty.
 fn read_or_empty(rt: &HostRuntime, path: &str) -> io::Result<Vec<u8>> {
     match fs::read(rt, path) {
-        Ok(bytes) => Ok(bytes),
-        Err(e) => {
-            if e.kind() == ErrorKind::NotFound {
-                Ok(Vec::new(rt.alloc()))
-            } else {
-                Err(e)
-            }
-        }
-    }
-}
-
-// Prints the line of finding k; false where there is none.
-fn print_finding<B: Book>(
-    rt: &HostRuntime,
-    review: &Review<B>,
-    k: usize,
-    names: &Names<'_>,
-    buffer: &mut [u8],
-) -> io::Result<bool> {
-    match report_line(review, k, names, buffer) {
-        Ok(length) => {
-            rt.stdout().write_all(&buffer[0..length])?;
-            Ok(true)
-        }
-        Err(LineFault::List(_)) => Ok(false),
-        Err(LineFault::Short(_)) => Err(io::Error::other("a line is longer than the buffer")),
+        Err(e) if e.kind() == ErrorKind::NotFound => Ok(Vec::new(rt.alloc())),
+        read => read,
     }
 }
 
@@ -50,11 +26,15 @@ fn print_findings<B: Book>(
     rt: &HostRuntime,
     review: &Review<B>,
     names: &Names<'_>,
-    buffer: &mut [u8],
 ) -> io::Result<()> {
-    for k in 0..usize::MAX {
-        if !print_finding(rt, review, k, names, buffer)? {
-            break;
+    let mut buffer = [0; LINE];
+    for k in 0.. {
+        match report_line(review, k, names, &mut buffer) {
+            Ok(length) => rt.stdout().write_all(&buffer[..length])?,
+            Err(LineFault::List(_)) => break,
+            Err(LineFault::Short(_)) => {
+                return Err(io::Error::other("a line is longer than the buffer"));
+            }
         }
     }
     Ok(())
@@ -65,25 +45,18 @@ fn print_last<B: Book>(
     rt: &HostRuntime,
     review: &Review<B>,
     outcome: &Result<(), RunFault>,
-    buffer: &mut [u8],
 ) -> io::Result<()> {
-    match last_line(review, outcome, buffer) {
-        Ok(length) => rt.stdout().write_all(&buffer[0..length]),
+    let mut buffer = [0; LINE];
+    match last_line(review, outcome, &mut buffer) {
+        Ok(length) => rt.stdout().write_all(&buffer[..length]),
         Err(_) => Err(io::Error::other("the last line is longer than the buffer")),
     }
 }
 
-// Judges the case, and prints the report.
-fn judge(rt: &HostRuntime) -> io::Result<()> {
-    let book = read_or_empty(rt, "book")?;
-    let case = read_or_empty(rt, "case")?;
-    let (review, outcome) = run_files(book.as_slice(), case.as_slice());
-    let names = Names::new(book.as_slice());
-    let mut buffer = [0; LINE];
-    print_findings(rt, &review, &names, &mut buffer)?;
-    print_last(rt, &review, &outcome, &mut buffer)
-}
-
 fn main(rt: HostRuntime) -> io::Result<()> {
-    judge(&rt)
+    let book = read_or_empty(&rt, "book")?;
+    let case = read_or_empty(&rt, "case")?;
+    let (review, outcome) = run_files(book.as_slice(), case.as_slice());
+    print_findings(&rt, &review, &Names::new(book.as_slice()))?;
+    print_last(&rt, &review, &outcome)
 }

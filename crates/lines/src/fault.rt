@@ -5,7 +5,7 @@ ghost use Rattle.lines.specs.Faults.{short_told};
 use refusals::{Fault, Told};
 
 // How many bytes the line has.
-#[derive(Clone, Copy, Debug, PartialEq, Eq)]
+#[derive(Clone, Copy, PartialEq, Eq, Debug)]
 pub struct Short {
     pub needed: usize,
 }

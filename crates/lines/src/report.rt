@@ -11,14 +11,14 @@ use crate::pieces::write_pieces;
 use itoa::Buffer;
 
 // What a finding says.
-#[derive(Clone, Copy, Debug, PartialEq, Eq)]
+#[derive(Clone, Copy, PartialEq, Eq, Debug)]
 pub enum Word {
     Breach,
     Violated,
 }
 
 // The name of an instance, or its number where it has no name.
-#[derive(Clone, Copy, Debug, PartialEq, Eq)]
+#[derive(Clone, Copy, PartialEq, Eq, Debug)]
 pub enum Name<'a> {
     Given(&'a [u8]),
     Unnamed(u8),

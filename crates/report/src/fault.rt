@@ -7,7 +7,7 @@ use lines::Short;
 use refusals::{Fault, Told};
 use review::ListFault;
 
-#[derive(Clone, Copy)]
+#[derive(Clone, Copy, PartialEq, Eq, Debug)]
 pub enum LineFault {
     // There is no such finding.
     List(ListFault),

@@ -48,7 +48,7 @@ pub fn report_line<B: Book>(
 {
     let (step, number) = review.list(k)?;
     let Some(mark) = Mark::new(number) else {
-        unreachable()
+        unreachable!()
     };
     Ok(write_finding(buffer, step, word_of(mark), name_of(names, mark.instance()))?)
 }
