@@ -1,2 +1,2 @@
-pub mod Parts
 pub mod Likes
+pub mod Told
