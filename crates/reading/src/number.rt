@@ -1,8 +1,7 @@
 // The numbers that stand in a file.
-ghost use Rattle.std.specs.Prelude.{◌≡◌, ℕ, List, Some, slice_index};
+ghost use Rattle.std.specs.Prelude.{◌≡◌, ℕ, List, Some, slice_index, refl};
 ghost use Rattle.std.specs.Ordering.{nat_cmp};
 ghost use Rattle.reading.specs.Reads.{pair};
-ghost use Rattle.std.proofs.Common.{refl};
 
 pub trait Number: Copy + PartialOrd {
     // How many bytes such a number has.
