@@ -1,5 +1,5 @@
 -- The marks of sixteen words. Assumes nothing.
-use Rattle.std.proofs.Common.{◌≡◌, ℕ, ◌-◌, ◌/◌, ◌%◌, ◌^◌, ◌<◌, ◌≤◌, Bool, true, false, not, ◌&&◌, ◌||◌, eqb, List, length, get_or, set, sym, refl, ap, ◌∙◌, ⊎_elim, arith}
+use Rattle.std.proofs.Common.{◌≡◌, ℕ, ◌-◌, ◌/◌, ◌%◌, ◌^◌, ◌<◌, ◌≤◌, Bool, true, false, not, ◌&&◌, ◌||◌, eqb, List, length, get_or, set, sym, refl, ap, ap₂, ◌∙◌, ⊎_elim, arith}
 use mathlib.Core.Path.{fun_ext}
 use lib.Bits.{bit_and, bit_or}
 use Rattle.std.proofs.lemmas.List.{get_or-set_same, get_or-set_other, get_or_past}
@@ -59,21 +59,47 @@ module _ (ws : List ℕ) (m : ℕ) (within : m / 64 < length ws) where
   unfolding after
   held_insert = fun_ext λ x. ⊎_elim (in_word x) (in_other x) (cases_eq (x / 64) (m / 64))
 
--- words that are joined one by one
-pub held_either : (ws vs us : List ℕ) → ((k : ℕ) → get_or us k 0 ≡ bit_or (get_or ws k 0) (get_or vs k 0)) → held us ≡ either (held ws) (held vs)
+-- words that fit in 64 bits
+abbrev pub AllFit : List ℕ → Type 0
+AllFit ws = (i : ℕ) → get_or ws i 0 < 2 ^ 64
+
+pub fit_set : (ws : List ℕ) (j x : ℕ) → j < length ws → AllFit ws → x < 2 ^ 64 → AllFit (set ws j x)
+fit_set ws j x lt fits fit i =
+    ⊎_elim
+    (λ same. let at : get_or (set ws j x) i 0 ≡ x = ap (λ k. get_or (set ws j x) k 0) same ∙ get_or-set_same ws j x 0 lt in omega (arith, at, fit))
+    (λ other. omega (arith, get_or-set_other ws j i x 0 other, fits i))
+    (cases_eq i j)
+
+pub fit_made : (us : List ℕ) (f : ℕ → ℕ) → length us ≡ 16 → ((i : ℕ) → i < 16 → get_or us i 0 ≡ f i) → ((i : ℕ) → f i < 2 ^ 64) → AllFit us
+fit_made us f long made fits i =
+    ⊎_elim
+    (λ below. omega (arith, made i below, fits i))
+    (λ past. omega (arith, get_or_past us i 0 (omega (arith, long))))
+    (cases_lt i 16)
+
+-- sets of words that are made from two others word by word, where the bits of each word are made by op
+held_by_words : (op : Bool → Bool → Bool) → op false false ≡ false → (ws vs us : List ℕ) → length ws ≡ 16 → length vs ≡ 16 → length us ≡ 16
+    → ((i k : ℕ) → i < 16 → k < 64 → bit (get_or us i 0) k ≡ op (bit (get_or ws i 0) k) (bit (get_or vs i 0) k))
+    → (m : ℕ) → held us m ≡ op (held ws m) (held vs m)
 unfolding held
-held_either ws vs us join = fun_ext λ m. ap (λ w. bit w (m % 64)) (join (m / 64)) ∙ bit_bit_or (get_or ws (m / 64) 0) (get_or vs (m / 64) 0) (m % 64)
+held_by_words op none ws vs us lw lv lu made m =
+    ⊎_elim
+    (λ below. made (m / 64) (m % 64) (omega arith) (omega arith))
+    (λ past. held_past us lu m past ∙ sym (ap₂ op (held_past ws lw m past) (held_past vs lv m past) ∙ none))
+    (cases_lt m 1024)
 
--- u has the bits of w that v lacks
-abbrev pub Lacks : ℕ → ℕ → ℕ → Type 0
-Lacks w v u = (k : ℕ) → k < 64 → bit u k ≡ (bit w k && not (bit v k))
+pub held_either : (ws vs us : List ℕ) → length ws ≡ 16 → length vs ≡ 16 → length us ≡ 16
+    → ((i : ℕ) → i < 16 → get_or us i 0 ≡ bit_or (get_or ws i 0) (get_or vs i 0)) → held us ≡ either (held ws) (held vs)
+held_either ws vs us lw lv lu join =
+    fun_ext (held_by_words (λ a b. a || b) refl ws vs us lw lv lu
+    (λ i k lt bit_lt. ap (λ w. bit w k) (join i lt) ∙ bit_bit_or (get_or ws i 0) (get_or vs i 0) k))
 
-pub word_lacks : (w v : ℕ) → v < 2 ^ 64 → Lacks w v (bit_and w (2 ^ 64 - 1 - v))
-word_lacks w v fits k lt = bit_bit_and w (2 ^ 64 - 1 - v) k ∙ ap (λ b. bit w k && b) (bit_not 64 v k fits lt)
-
-pub nothing_lacks : (v : ℕ) → Lacks 0 v 0
-nothing_lacks v k lt = bit_zero k ∙ ap (λ b. b && not (bit v k)) (sym (bit_zero k))
-
-pub held_beyond : (ws vs us : List ℕ) → ((k : ℕ) → Lacks (get_or ws k 0) (get_or vs k 0) (get_or us k 0)) → held us ≡ beyond (held ws) (held vs)
-unfolding held
-held_beyond ws vs us lacks = fun_ext λ m. lacks (m / 64) (m % 64) (omega arith)
+pub held_beyond : (ws vs us : List ℕ) → length ws ≡ 16 → length vs ≡ 16 → length us ≡ 16 → AllFit vs
+    → ((i : ℕ) → i < 16 → get_or us i 0 ≡ bit_and (get_or ws i 0) (2 ^ 64 - 1 - get_or vs i 0)) → held us ≡ beyond (held ws) (held vs)
+held_beyond ws vs us lw lv lu fits lack =
+    fun_ext (held_by_words (λ a b. a && not b) refl ws vs us lw lv lu
+    (λ i k lt bit_lt.
+    let v = get_or vs i 0 in
+    ap (λ w. bit w k) (lack i lt)
+    ∙ bit_bit_and (get_or ws i 0) (2 ^ 64 - 1 - v) k
+    ∙ ap (λ b. bit (get_or ws i 0) k && b) (bit_not 64 v k (fits i) bit_lt)))

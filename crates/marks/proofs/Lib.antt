@@ -2,5 +2,6 @@ pub mod Bits
 pub mod Counted
 pub mod Held
 pub mod InARow
+pub mod Made
 pub mod Numbers
 pub mod Words

@@ -1,8 +1,12 @@
 -- A set of marks and its sixteen words. Assumes nothing.
-use Rattle.std.proofs.Common.{◌≡◌, ℕ, ◌+◌, ◌*◌, ◌/◌, ◌%◌, ◌^◌, ◌<◌, List, length, get_or, sym, ap, ◌∙◌, ap₂, arith}
+use Rattle.std.proofs.Common.{◌≡◌, ℕ, ◌+◌, ◌*◌, ◌/◌, ◌%◌, ◌^◌, ◌<◌, Bool, eqb, List, length, get_or, sym, ap, ◌∙◌, ap₂, arith, Decides}
+use Rattle.std.specs.Cmp.Lexicographic.{pointwise}
+use Rattle.std.proofs.lemmas.Bool.Decides.{Decides-eqb}
+use Rattle.std.proofs.lemmas.Slice.Eq.{slice_eq-Decides}
 use Rattle.std.proofs.lemmas.List.{length-map, get_or-map, ext_get_or}
 use Rattle.marks.specs.Sets.{Set}
-use Rattle.marks.specs.Words.{bit, held}
+use Rattle.marks.specs.Words.{bit, held, members}
+use Rattle.marks.specs.declared.mark_set.MarkSet.{MarkSet}
 use Rattle.marks.specs.Members.{counted, number_of, words_of}
 use Rattle.marks.proofs.Counted.{length_counted, get_or_counted}
 use Rattle.marks.proofs.Numbers.{number_same, number_of_bits}
@@ -35,3 +39,12 @@ words_of_held ws long fits =
     (get_or_words_of (held ws) i (omega arith)
     ∙ number_same (λ k. held ws (64 * i + k)) (bit (get_or ws i 0)) 64 (held_at ws i)
     ∙ number_of_bits (get_or ws i 0) 64 (fits i)))
+
+-- sets of the same marks have the same words, so that a comparison of the words decides whether the marks are the same
+pub same_words : (a b : MarkSet) → members a ≡ members b → a.words ≡ b.words
+same_words a b same = words_of_held a.words a.sixteen a.fits ∙ ap words_of same ∙ sym (words_of_held b.words b.sixteen b.fits)
+
+pub same_marks : (a b : MarkSet) (r : Bool) → r ≡ pointwise eqb a.words b.words → Decides r (members a ≡ members b)
+same_marks a b r e =
+    let words = slice_eq-Decides Decides-eqb a.words b.words r e in
+    ((λ yes. ap held (words.0 yes)), (λ same. words.1 (same_words a b same)))

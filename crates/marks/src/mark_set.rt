@@ -1,5 +1,5 @@
 // A set of marks as sixteen words of 64 bits: mark m is bit m mod 64 of word m div 64.
-ghost use Rattle.std.specs.Prelude.{◌≡◌, length};
+ghost use Rattle.std.specs.Prelude.{◌≡◌, ℕ, ◌<◌, ◌^◌, length, slice_index};
 
 mod methods;
 
@@ -7,4 +7,5 @@ mod methods;
 pub struct MarkSet {
     words: [u64; 16],
     ghost sixteen: { length words ≡ 16 },
+    ghost fits: { (i : ℕ) → slice_index words i < 2 ^ 64 },
 }

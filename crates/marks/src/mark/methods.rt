@@ -50,7 +50,7 @@ impl Instance {
         ensures { result.number ≡ mark self.number (attribute_number says) }
     {
         Mark {
-            number: 8 * self.number as u16 + says.number() as u16,
+            number: 8 * u16::from(self.number) + u16::from(says.number()),
         }
     }
 }

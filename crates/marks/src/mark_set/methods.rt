@@ -7,6 +7,7 @@ ghost use Rattle.marks.specs.Members.{words_of};
 use crate::mark::Mark;
 use crate::mark_set::MarkSet;
 use crate::numbered::Numbered;
+use std::array;
 
 impl MarkSet {
     pub fn empty() -> MarkSet
@@ -19,23 +20,28 @@ impl MarkSet {
         ensures { result ≡ members self.now mark.number }
     {
         let m = mark.number();
-        self.words[m as usize / 64] >> (m % 64) & 1 == 1
+        self.words[usize::from(m / 64)] >> (m % 64) & 1 == 1
+    }
+
+    // The sixteen words of the set.
+    pub fn words(&self) -> [u64; 16]
+        ensures { result ≡ words_of (members self.now) }
+    {
+        self.words
     }
 
     pub fn insert(&mut self, mark: Mark)
         ensures { members self.new ≡ with_mark mark.number (members self.old) }
     {
         let m = mark.number();
-        self.words[m as usize / 64] |= 1 << (m % 64);
+        self.words[usize::from(m / 64)] |= 1 << (m % 64);
     }
 
     // Adds all marks of the other set.
     pub fn unite(&mut self, other: &MarkSet)
         ensures { members self.new ≡ either (members self.old) (members other.now) }
     {
-        for (i, word) in other.words.iter().enumerate() {
-            self.words[i] |= *word;
-        }
+        self.words = array::from_fn(|i| self.words[i] | other.words[i]);
     }
 
     // A mark of this set that the other lacks, or none where there is no such mark.
@@ -49,24 +55,8 @@ impl MarkSet {
     pub fn without(&self, other: &MarkSet) -> MarkSet
         ensures { members result ≡ beyond (members self.now) (members other.now) }
     {
-        let mut words = self.words;
-        for (i, word) in words.iter_mut().enumerate() {
-            *word &= !other.words[i];
+        MarkSet {
+            words: array::from_fn(|i| self.words[i] & !other.words[i]),
         }
-        MarkSet { words }
-    }
-
-    // The sixteen words of the set.
-    pub fn words(&self) -> [u64; 16]
-        ensures { result ≡ words_of (members self.now) }
-    {
-        self.into_words()
-    }
-
-    // The same of a set that is passed whole.
-    fn into_words(self) -> [u64; 16]
-        ensures { result ≡ words_of (members self) }
-    {
-        self.words
     }
 }

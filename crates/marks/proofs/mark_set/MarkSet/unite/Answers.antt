@@ -1,31 +1,21 @@
-use Rattle.std.proofs.Common.{◌<◌, ◌≢◌, length, get_or, sym, ap, ◌∙◌, ⊎_elim, le_refl, arith, get_or-set_other, get_or-set_same, below_more}
-use lib.Bits.{bit_or, or_zero_r}
-use Rattle.std.proofs.lemmas.List.{get_or_past}
-use Rattle.std.proofs.lemmas.Bool.{cases_lt}
-use Rattle.marks.proofs.Held.{held_either}
+use Rattle.std.proofs.Common.{◌≡◌, ◌<◌, ℕ, rules, get_or}
+use borrow.Author.Tests.{tests}
+use lib.Bits.{bit_or}
+use Rattle.std.proofs.lemmas.Nat.{or_lt}
+use Rattle.marks.proofs.Held.{held_either, fit_made}
+use Rattle.marks.proofs.Made.{made_at}
 use Rattle.marks.proofs.mark_set.MarkSet.unite.Goals as goal
 
-pub loop-i-preserved : goal.loop-i-preserved
-loop-i-preserved c =
-    let i = c.loop-i.i in
-    let ws = c.loop-i.self.words in
-    let vs = c.args.other.now.words in
-    let lt : i < length ws = omega (arith, c.loop-i.self.sixteen) in (
-      below_more _ _
-          (λ k h. let ne : k ≢ i = omega arith in rw get_or-set_other (c.loop-i.invariant.0 k h))
-          (rw get_or-set_same (ap (λ w. bit_or w (get_or vs i 0)) (c.loop-i.invariant.1 i (le_refl i)))),
-      λ k h. let ne : k ≢ i = omega arith in rw get_or-set_other (c.loop-i.invariant.1 k (omega arith)),
-    )
+joined : (c : goal.After-from_fn-self) (i : ℕ) → i < 16 → get_or c.from_fn-self.result i 0 ≡ bit_or (get_or c.args.self.now.words i 0) (get_or c.args.other.now.words i 0)
+joined c i lt =
+    made_at _ (λ k. bit_or (get_or c.args.self.now.words k 0) (get_or c.args.other.now.words k 0)) (λ k y q called. search (rules, tests)) c.from_fn-self.result 16 c.from_fn-self.ensures.items i 0 lt
+
+pub invariant_of-self-clause-fits : goal.invariant_of-self-clause-fits
+invariant_of-self-clause-fits c =
+    fit_made c.from_fn-self.result _ c.from_fn-self.ensures.items.long (joined c)
+    (λ i. or_lt 64 _ _ (c.args.self.now.fits i) (c.args.other.now.fits i))
 
 pub returns : goal.returns
 returns c =
-    let ws = c.args.self.now in
-    let vs = c.args.other.now in
-    held_either ws.words vs.words c.loop-i.self.words
-    (λ k. ⊎_elim
-    (λ below. c.loop-i.invariant.0 k (omega arith))
-    (λ past.
-    c.loop-i.invariant.1 k (omega arith)
-    ∙ sym (or_zero_r (get_or ws.words k 0))
-    ∙ ap (bit_or (get_or ws.words k 0)) (sym (get_or_past vs.words k 0 (omega (arith, vs.sixteen)))))
-    (cases_lt k 16))
+    held_either c.args.self.now.words c.args.other.now.words c.from_fn-self.result
+    c.args.self.now.sixteen c.args.other.now.sixteen c.from_fn-self.ensures.items.long (joined c.before)
