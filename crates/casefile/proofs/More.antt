@@ -26,9 +26,9 @@ module _ (bs : List ℕ) where
 
 -- a reader of the same bytes stands at step k of n, which it reads
 module _ (bs rs : List ℕ) (same : rs ≡ bs) (n k i : ℕ) (below : k < n) (end : Option Told) (ends : end_from bs (n - k) k i ≡ end) where
-  pub goes_on : (j : ℕ) → ◌≡◌ {A = Result (Unit {0}) Told} (Ok tt) (passes tt (step_check (case_step k) rs i)) → j ≡ after_step rs i → end_from bs (n - (k + 1)) (k + 1) j ≡ end
-  goes_on j answer next =
-      let passed = ap (λ xs. step_check (case_step k) xs i) (sym same) ∙ passed_by tt tt (step_check (case_step k) rs i) answer in
+  pub goes_on : (j : ℕ) (x : Unit {0}) → ◌≡◌ {A = Result (Unit {0}) Told} (Ok x) (passes tt (step_check (case_step k) rs i)) → j ≡ after_step rs i → end_from bs (n - (k + 1)) (k + 1) j ≡ end
+  goes_on j x answer next =
+      let passed = ap (λ xs. step_check (case_step k) xs i) (sym same) ∙ passed_by tt x (step_check (case_step k) rs i) answer in
       ap (end_from bs (n - (k + 1)) (k + 1)) (next ∙ ap (λ xs. after_step xs i) same)
       ∙ sym (end_more bs (n - k) (n - (k + 1)) k i (omega arith) passed)
       ∙ ends

@@ -12,6 +12,7 @@ use crate::steps::{read_count, read_end, read_step};
 use reading::Reader;
 
 // Whether the bytes are a case file.
+#[tactic(auto, using(crate::proofs::More::goes_on))]
 pub fn check_case(bytes: &[u8]) -> Result<(), CaseFault>
     ensures answer { answered case_told result ≡ passes tt (case_end bytes.now) }
     ensures law { (is_ok result ≡ true) ↔ CaseFile bytes.now }

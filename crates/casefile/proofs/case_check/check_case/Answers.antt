@@ -4,20 +4,9 @@ use Rattle.refusals.specs.Telling.{answered}
 use Rattle.refusals.specs.Checks.{passes}
 use Rattle.casefile.specs.Faults.{case_told}
 use Rattle.casefile.specs.Cases.{case_end}
-use Rattle.casefile.proofs.More.{end_none, goes_on, stops}
+use Rattle.casefile.proofs.More.{end_none, stops}
 use Rattle.casefile.proofs.Law.{call_law, steps_read}
 use Rattle.casefile.proofs.case_check.check_case.Goals as goal
-
-pub loop-step-preserved : goal.loop-step-preserved
-loop-step-preserved c =
-    let bs = c.args.bytes.now in
-    let reader = c.loop-step.reader in
-    let inv = c.loop-step.invariant in
-    let step = c.in_ok-read_step.ensures in (
-      search rules,
-      goes_on bs reader.bytes.now inv.0 c.in_ok-count.count c.loop-step.step reader.at c.loop-step-test.true (case_end bs) inv.1
-          c.read_step.new.reader.at step.answer step.moved.at,
-    )
 
 pub returns-in_err-read_step : goal.returns-in_err-read_step
 returns-in_err-read_step c =
