@@ -33,7 +33,9 @@ fn word_of(mark: Mark) -> Word
 fn name_of<'a>(names: &Names<'a>, instance: Instance) -> Name<'a>
     ensures { name_text result ≡ name_or_number (name_list names.now) instance.number }
 {
-    names.name(instance).map_or(Name::Unnamed(instance.number()), Name::Given)
+    names
+        .name(instance)
+        .map_or(Name::Unnamed(instance.number()), Name::Given)
 }
 
 // Writes the line of finding k, counted from 0, and answers how many bytes it has.

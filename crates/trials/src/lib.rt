@@ -7,3 +7,5 @@ mod damaged;
 mod files;
 #[cfg(test)]
 mod proposals;
+#[cfg(test)]
+mod telling;
