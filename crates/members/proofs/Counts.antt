@@ -1,11 +1,12 @@
 -- How many marks a set has below a number. Assumes nothing.
-use Rattle.std.proofs.Common.{◌≡◌, ℕ, zero, suc, ◌+◌, ◌*◌, ◌<◌, ◌≤◌, Bool, true, false, cond, List, [], ◌∷◌, length, get_or, filter, sym, refl, ap, ◌∙◌, arith}
+use Rattle.std.proofs.Common.{◌≡◌, ℕ, zero, suc, ◌+◌, ◌*◌, ◌≤◌, Bool, true, false, cond, [], ◌∷◌, length, map, filter, sym, refl, ap, ap₂, ◌∙◌, arith}
 use lib.Count.{ones}
 use Rattle.std.proofs.lemmas.List.Elements.{filter-append}
-use Rattle.std.proofs.lemmas.List.{length-append}
+use Rattle.std.proofs.lemmas.List.{length-append, map-append}
+use Rattle.std.proofs.lemmas.List.Sums.{sum_by-append}
+use Rattle.std.specs.List.{sum_by}
 use Rattle.marks.specs.Members.{counted, marks_in, number_of, words_of}
 use Rattle.marks.specs.Sets.{Set}
-use Rattle.marks.proofs.Words.{get_or_words_of}
 use Rattle.members.proofs.Numbers.{part_le, ones_none, ones_next}
 
 -- how many marks of M are below n
@@ -40,13 +41,27 @@ below_more M a (suc n) =
     let on : a + suc n ≡ suc (a + n) = omega arith in
     ap (below M) on ∙ omega (arith, below_next M (a + n), below_more M a n, ones_next (λ k. M (a + k)) n)
 
-pub below_word : (M : Set ℕ) (ws : List ℕ) (i : ℕ) → ws ≡ words_of M → i < 16 → below M (64 * i) + ones (get_or ws i 0) ≡ below M (64 * (i + 1))
-below_word M ws i are lt =
-    let on : 64 * i + 64 ≡ 64 * (i + 1) = omega arith in
-    ap (λ w. below M (64 * i) + ones w) (ap (λ vs. get_or vs i 0) are ∙ get_or_words_of M i lt)
-    ∙ sym (below_more M (64 * i) 64)
+-- the word at place i
+abbrev word : Set ℕ → ℕ → ℕ
+word M i = number_of (λ k. M (64 * i + k)) 64
+
+-- the ones of the first n words
+ones_below : (M : Set ℕ) (n : ℕ) → sum_by ones (map (word M) (counted n)) ≡ below M (64 * n)
+unfolding counted
+ones_below M zero = sym (below_none M)
+ones_below M (suc n) =
+    let on : 64 * n + 64 ≡ 64 * suc n = omega arith in
+    let one : sum_by ones (word M n ∷ []) ≡ ones (word M n) = omega arith in
+    ap (sum_by ones) (map-append (word M) (counted n) (n ∷ []))
+    ∙ sum_by-append ones (map (word M) (counted n)) (word M n ∷ [])
+    ∙ ap₂ (λ b w. b + w) (ones_below M n) one
+    ∙ sym (below_more M (64 * n) 64)
     ∙ ap (below M) on
 
-pub below_all : (M : Set ℕ) → below M 1024 ≡ length (marks_in M)
+pub ones_of_words : (M : Set ℕ) → sum_by ones (words_of M) ≡ length (marks_in M)
+unfolding words_of marks_in
+ones_of_words M = ones_below M 16
+
+pub few_marks : (M : Set ℕ) → length (marks_in M) ≤ 1024
 unfolding marks_in
-below_all M = refl
+few_marks M = below_le M 1024

@@ -15,11 +15,7 @@ pub fn count(set: &MarkSet) -> u16
     ensures low { result ≤ 1024 }
 {
     let words = set.words();
-    let mut marks = 0;
-    for word in words.iter() {
-        marks += word.count_ones() as u16;
-    }
-    marks
+    words.iter().map(|word| word.count_ones() as u16).sum()
 }
 
 // The lowest mark of the set, or none where the set is empty.
@@ -27,12 +23,8 @@ pub fn lowest(set: &MarkSet) -> Option<Mark>
     ensures { option_map (λ (m : Mark). m.number) result ≡ lowest (members set.now) }
 {
     let words = set.words();
-    for (i, word) in words.iter().enumerate() {
-        if *word != 0 {
-            return Mark::new(64 * i as u16 + word.trailing_zeros() as u16);
-        }
-    }
-    None
+    let i = words.iter().position(|word| *word != 0)?;
+    Mark::new(64 * i as u16 + words[i].trailing_zeros() as u16)
 }
 
 // The lowest mark of the set that the other lacks, or none where there is no such mark.

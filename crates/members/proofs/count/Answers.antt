@@ -1,29 +1,29 @@
-use Rattle.std.proofs.Common.{◌≡◌, ◌+◌, ◌*◌, get_or, sym, ap, ◌∙◌, arith}
+use Rattle.std.proofs.Common.{◌^◌, ◌∙◌, ap, rules, arith}
+use borrow.Author.Tests.{tests}
 use lib.Count.{ones}
+use Rattle.std.specs.List.{sum_by}
+use Rattle.std.proofs.lemmas.Iterator.{YieldsList-from_slice, YieldsList-from_map}
+use Rattle.std.proofs.lemmas.Iterator.Consumers.{YieldsList-at, sum_by_from_yields_List, fits_by_from_yields_list}
 use Rattle.marks.specs.Words.{members}
-use Rattle.members.proofs.Counts.{below, below_none, below_le, below_word, below_all}
+use Rattle.members.proofs.Counts.{ones_of_words, few_marks}
 use Rattle.members.proofs.count.Goals as goal
 
-pub loop-word-init : goal.loop-word-init
-loop-word-init c = sym (below_none (members c.args.set.now))
-
-pub overflow_add-marks : goal.overflow_add-marks
-overflow_add-marks c =
-    let M = members c.args.set.now in
-    let i = c.loop-word.word-index in
-    let next = below_word M c.words-words.result i c.words-words.ensures c.loop-word-test.true in
-    record { fits = omega (arith, below_le M (64 * (i + 1))) }
-
-pub loop-word-preserved : goal.loop-word-preserved
-loop-word-preserved c =
+pub sum-requires-clause-fits : goal.sum-requires-clause-fits
+sum-requires-clause-fits c =
     let M = members c.args.set.now in
     let ws = c.words-words.result in
-    let i = c.loop-word.word-index in
-    ap (λ n. n + ones (get_or ws i 0)) c.loop-word.invariant ∙ below_word M ws i c.words-words.ensures c.loop-word-test.true
+    let total = ap (sum_by ones) c.words-words.ensures ∙ ones_of_words M in
+    fits_by_from_yields_list ones ws c.map.result (2 ^ 16)
+    (YieldsList-from_map _ ones (YieldsList-at c.map.ensures.source (YieldsList-from_slice ws (cc))) c.map.ensures.closure (λ x r q k. search (rules, tests)))
+    (omega (arith, total, few_marks M))
 
-pub returns : goal.returns
-returns c =
-    let M = members c.args.set.now in
-    let all : 64 * c.loop-word.word-index ≡ 1024 = omega arith in
-    let value = c.loop-word.invariant ∙ ap (below M) all in
-    record { value = value ∙ below_all M; low = omega (arith, below_le M 1024) }
+pub returns-clause-value : goal.returns-clause-value
+returns-clause-value c =
+    let ws = c.words-words.result in
+    sum_by_from_yields_List ones ws c.map.result c.sum.result c.sum.ensures.ran
+    (YieldsList-from_map _ ones (YieldsList-at c.map.ensures.source (YieldsList-from_slice ws (cc))) c.map.ensures.closure (λ x r q k. search (rules, tests)))
+    ∙ ap (sum_by ones) c.words-words.ensures
+    ∙ ones_of_words (members c.args.set.now)
+
+pub returns-clause-low : goal.returns-clause-low
+returns-clause-low c = omega (arith, returns-clause-value c, few_marks (members c.args.set.now))

@@ -1,18 +1,21 @@
-use Rattle.std.proofs.Common.{sym, arith}
+use Rattle.std.proofs.Common.{◌≡◌, ◌<◌, ◌∙◌, ap, sym, rules}
+use borrow.Author.Tests.{tests}
+use Rattle.std.specs.Option.{option_map}
+use Rattle.std.proofs.lemmas.Iterator.{YieldsList-from_slice, IsFirst-from_position}
+use Rattle.marks.specs.declared.mark.Mark.{Mark}
 use Rattle.marks.specs.Words.{members}
-use Rattle.members.proofs.LowestMark.{lowest_none, none_in_word, lowest_made}
+use Rattle.members.proofs.LowestMark.{no_word, at_word}
 use Rattle.members.proofs.lowest.Goals as goal
 
-pub returns-then-word-ne0 : goal.returns-then-word-ne0
-returns-then-word-ne0 c =
-    let words = c.words-words in
-    lowest_made (members c.args.set.now) words.result c.loop-i.i words.ensures c.loop-i-test.true c.loop-i.invariant
-    c.new.result (omega arith) c.new.ensures
-
-pub loop-i-preserved : goal.loop-i-preserved
-loop-i-preserved c =
-    let words = c.words-words in
-    none_in_word (members c.args.set.now) words.result c.loop-i.i words.ensures c.loop-i-test.true c.loop-i.invariant (omega arith)
+pub returns-in_err-i : goal.returns-in_err-i
+returns-in_err-i c =
+    let ws = c.words-words.result in
+    let first = IsFirst-from_position _ _ c.position.result (λ w. 0 < w) (λ w. w ≡ 0) c.position.ensures.ran (YieldsList-from_slice ws (cc)) (λ x q k. search (rules, tests)) (λ x q k. search (rules, tests)) in
+    ap (option_map (λ (m : Mark). m.number)) c.from_residual.ensures
+    ∙ sym (no_word (members c.args.set.now) ws c.words-words.ensures c.position.result first c.in_err-i.was)
 
 pub returns : goal.returns
-returns c = sym (lowest_none (members c.args.set.now) (λ k lt. c.loop-i.invariant k (omega arith)))
+returns c =
+    let ws = c.words-words.result in
+    let first = IsFirst-from_position _ _ c.position.result (λ w. 0 < w) (λ w. w ≡ 0) c.position.ensures.ran (YieldsList-from_slice ws (cc)) (λ x q k. search (rules, tests)) (λ x q k. search (rules, tests)) in
+    at_word (members c.args.set.now) ws c.words-words.ensures c.position.result first c.in_ok-i.i c.in_ok-i.was c.new.result c.new.ensures
