@@ -3,5 +3,4 @@ pub mod Places
 pub mod Handing
 pub mod Listing
 pub mod Search
-pub mod Numbered
 pub mod Comparing

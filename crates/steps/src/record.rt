@@ -4,7 +4,7 @@ use marks::MarkSet;
 mod handing;
 mod methods;
 
-#[derive(Clone, Copy)]
+#[derive(Clone, Copy, PartialEq, Eq, Debug)]
 pub struct Record {
     said: MarkSet,
     marks: MarkSet,

@@ -1,22 +1,13 @@
-// A table with places for 64 steps, of which the first `count` stand.
-ghost use Rattle.std.specs.Prelude.{◌≡◌, ◌≤◌, length};
-
+// A table with places for 64 steps.
 use crate::record::Record;
+use arrayvec::ArrayVec;
 
 mod comparing;
 mod going_back;
 mod methods;
 
-// The places, one record each.
-#[derive(Drop)]
-struct Places {
-    records: [Record; 64],
-}
-
+// The records of the steps that stand, in their order.
 #[derive(Drop)]
 pub struct Table {
-    places: Places,
-    count: usize,
-    ghost all: { length places.records ≡ 64 },
-    ghost room: { count ≤ 64 },
+    records: ArrayVec<Record, 64>,
 }

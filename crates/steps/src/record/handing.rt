@@ -5,7 +5,7 @@ ghost use Rattle.marks.specs.Numbers.{mark, carried};
 ghost use Rattle.norms.specs.Steps.{handed_on};
 
 use crate::record::Record;
-use marks::{Attribute, Instance, MarkSet};
+use marks::{Attribute, Instance, MarkSet, Numbered};
 
 impl Record {
     // Whether carried of the instance is handed on.
@@ -23,11 +23,9 @@ impl Record {
         ensures { members result ≡ handed_on (members self.now.marks) }
     {
         let mut handed = MarkSet::empty();
-        for i in 0..128 {
-            if let Some(instance) = Instance::new(i) {
-                if self.hands_on_of(instance) {
-                    handed.insert(instance.mark(Attribute::Carried));
-                }
+        for instance in Instance::all() {
+            if self.hands_on_of(instance) {
+                handed.insert(instance.mark(Attribute::Carried));
             }
         }
         handed

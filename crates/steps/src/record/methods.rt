@@ -1,11 +1,18 @@
 // Filling a record, and the findings of its step.
-ghost use Rattle.std.specs.Prelude.{◌≡◌, ℕ, ◌<◌, ◌≤◌, true, length, MatchResult};
+ghost use Rattle.std.specs.Prelude.{◌≡◌, ℕ, ◌<◌, ◌≤◌, true, length, Decides, MatchResult};
 ghost use Rattle.marks.specs.Words.{members};
 ghost use Rattle.norms.specs.Findings.{finding, findings_in};
 ghost use Rattle.steps.specs.Listed.{listed};
 
 use crate::record::Record;
-use marks::{Attribute, Mark, MarkSet};
+use marks::{Attribute, Mark, MarkSet, Numbered};
+
+// No mark was said, and there is none.
+impl Default for Record {
+    fn default() -> Record {
+        Record::new(MarkSet::empty(), MarkSet::empty())
+    }
+}
 
 impl Record {
     pub fn new(said: MarkSet, marks: MarkSet) -> Record
@@ -24,10 +31,12 @@ impl Record {
         self.marks = marks;
     }
 
-    pub(crate) fn said(&self) -> &MarkSet
-        ensures { result.now ≡ self.now.said }
+    // Whether the same marks were said at both steps.
+    #[tactic(auto, using(marks::proofs::Words::same_marks))]
+    pub(crate) fn same_said(&self, other: &Record) -> bool
+        ensures { Decides result (members self.now.said ≡ members other.now.said) }
     {
-        &self.said
+        self.said == other.said
     }
 
     pub fn marks(&self) -> &MarkSet
@@ -53,10 +62,7 @@ impl Record {
     pub fn is_finding(&self, number: u16) -> bool
         ensures { result ≡ finding (members self.now.marks) number }
     {
-        match Mark::new(number) {
-            Some(mark) => self.has_finding(mark),
-            None => false,
-        }
+        Mark::new(number).is_some_and(|mark| self.has_finding(mark))
     }
 
     // How many findings the step has.
@@ -64,13 +70,7 @@ impl Record {
         ensures value { result ≡ length (findings_in (members self.now.marks)) }
         ensures low { result ≤ 1024 }
     {
-        let mut count = 0;
-        for n in 0..1024 {
-            if self.is_finding(n) {
-                count += 1;
-            }
-        }
-        count
+        Mark::all().filter(|mark| self.has_finding(*mark)).count() as u16
     }
 
     // Finding k of the step, counted from 0 and rising by mark, or how many findings there are.
@@ -78,15 +78,9 @@ impl Record {
         ensures value { result ≡ listed (findings_in (members self.now.marks)) k }
         ensures low { MatchResult result (λ m. m < 1024) (λ n. n ≤ 1024) }
     {
-        let mut seen = 0;
-        for n in 0..1024 {
-            if self.is_finding(n) {
-                if seen == k {
-                    return Ok(n);
-                }
-                seen += 1;
-            }
+        match Mark::all().filter(|mark| self.has_finding(*mark)).nth(k) {
+            Some(mark) => Ok(mark.number()),
+            None => Err(self.findings() as usize),
         }
-        Err(seen)
     }
 }

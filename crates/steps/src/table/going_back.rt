@@ -9,8 +9,6 @@ impl Table {
     pub fn truncate(&mut self, n: usize)
         ensures { standing self.new ≡ take n (standing self.old) }
     {
-        if n < self.count {
-            self.count = n;
-        }
+        self.records.truncate(n);
     }
 }

@@ -1,24 +1,18 @@
 // What can be asked of the table and done to it.
-ghost use Rattle.std.specs.Prelude.{◌≡◌, ℕ, ◌+◌, ◌<◌, ◌≤◌, List, [], ◌∷◌, ◌++◌, length, IfOk, Result, MatchOption, slice_set};
+ghost use Rattle.std.specs.Prelude.{◌≡◌, ℕ, ◌+◌, ◌<◌, ◌≤◌, List, [], ◌∷◌, ◌++◌, length, ◌↔◌, IfOk, IsSome, Result, MatchOption};
+ghost use Rattle.std.specs.Borrow.{sem};
+ghost use Rattle.arrayvec.specs.ArrayVec.{array_vec_len};
 ghost use Rattle.marks.specs.Words.{members};
 ghost use Rattle.norms.specs.Steps.{Step, inherited};
 ghost use Rattle.norms.specs.Findings.{findings};
+ghost use Rattle.steps.specs.Lending.{LendsRecord};
 ghost use Rattle.steps.specs.Listed.{listed};
-ghost use Rattle.steps.specs.Standing.{standing, step_with, record_with};
+ghost use Rattle.steps.specs.Standing.{standing, step_with};
 
 use crate::record::Record;
-use crate::table::{Places, Table};
-use marks::{Attribute, Instance, MarkSet};
-
-impl Places {
-    // Writes a step into the record at this place, and into no other.
-    fn fill(&mut self, at: usize, said: MarkSet, marks: MarkSet)
-        requires { at < 64 }
-        ensures { self.new.records ≡ slice_set self.old.records at (record_with said marks) }
-    {
-        self.records[at].fill(said, marks);
-    }
-}
+use crate::table::Table;
+use arrayvec::ArrayVec;
+use marks::MarkSet;
 
 impl Table {
     // No step stands.
@@ -26,10 +20,7 @@ impl Table {
         ensures { standing result ≡ [] }
     {
         Table {
-            places: Places {
-                records: [Record::new(MarkSet::empty(), MarkSet::empty()); 64],
-            },
-            count: 0,
+            records: ArrayVec::new(),
         }
     }
 
@@ -38,19 +29,24 @@ impl Table {
         ensures value { result ≡ length (standing self.now) }
         ensures room { result ≤ 64 }
     {
-        self.count
+        self.records.len()
+    }
+
+    // Lends the record at this place, to be filled, if there is one.
+    fn record_mut(&mut self, at: usize) -> Option<&mut Record>
+        ensures* writes_back { sem 𝓛 (LendsRecord self.entry at result) }
+        ensures within { IsSome result ↔ (at < array_vec_len self.old.records) }
+    {
+        self.records.get_mut(at)
     }
 
     // One step more, and its number; none where all 64 places are taken.
     pub fn add(&mut self, said: MarkSet, marks: MarkSet) -> Option<u8>
         ensures { MatchOption result ((length (standing self.old) ≡ 64) × (self.new ≡ self.old)) (λ n. (n ≡ length (standing self.old) + 1) × (length (standing self.old) < 64) × (standing self.new ≡ standing self.old ++ (step_with said marks ∷ []))) }
     {
-        let at = self.count;
-        if at >= 64 {
-            return None;
-        }
-        self.places.fill(at, said, marks);
-        self.count = at + 1;
+        let at = self.len();
+        self.records.try_push(Record::default()).ok()?;
+        self.record_mut(at)?.fill(said, marks);
         Some(at as u8 + 1)
     }
 
@@ -58,10 +54,9 @@ impl Table {
     pub fn inherited(&self) -> MarkSet
         ensures { members result ≡ inherited (standing self.now) }
     {
-        if self.count == 0 {
-            return MarkSet::empty();
-        }
-        self.places.records[self.count - 1].hands_on()
+        self.records
+            .last()
+            .map_or_else(MarkSet::empty, Record::hands_on)
     }
 
     // Finding k of all steps, by step and then by mark, or how many findings there are.
@@ -70,9 +65,9 @@ impl Table {
         ensures low { IfOk result (λ d. d.1 < 1024) }
     {
         let mut seen = 0;
-        for i in 0..self.count {
-            match self.places.records[i].finding(k - seen) {
-                Ok(mark) => return Ok((i as u8 + 1, mark)),
+        for (at, record) in self.records.iter().enumerate() {
+            match record.finding(k - seen) {
+                Ok(mark) => return Ok((at as u8 + 1, mark)),
                 Err(here) => seen += here,
             }
         }

@@ -1,36 +1,28 @@
-use Rattle.std.proofs.Common.{◌≡◌, length, sym, ap, ◌∙◌, arith}
+use Rattle.std.proofs.Common.{tests, length, Some, None, Err, ap, ◌∙◌, rules}
+use Rattle.std.specs.List.{slice_get}
+use Rattle.std.specs.Option.{ok_or}
+use Rattle.std.proofs.lemmas.Iterator.Consumers.{nth_from_yields_List, YieldsList-from_filter, YieldsList-at}
+use Rattle.marks.specs.declared.mark.Mark.{Mark}
 use Rattle.marks.specs.Words.{members}
-use Rattle.steps.proofs.Found.{count_none, count_hit, count_miss, found, found_here, found_past}
+use Rattle.marks.proofs.InARow.{all_values}
+use Rattle.norms.specs.Findings.{finding, findings_in}
+use Rattle.steps.proofs.Found.{found_all}
 use Rattle.steps.proofs.record.Record.finding.Goals as goal
-use Rattle.steps.proofs.record.Record.finding.Goals.{then-is_finding+else-seen-k, else-is_finding}
 
-pub loop-n-init : goal.loop-n-init
-loop-n-init c = (omega arith, omega arith, count_none (members c.args.self.now.marks))
-
-pub returns-then-seen-k : goal.returns-then-seen-k
-returns-then-seen-k c =
+pub returns-in-Some-clause-value : goal.returns-in-Some-clause-value
+returns-in-Some-clause-value c =
     let M = members c.args.self.now.marks in
-    record {
-      value = found_here M c.loop-n.n c.args.k c.loop-n-test.true (sym c.if-seen-k.true ∙ c.loop-n.invariant.2) (sym c.is_finding.ensures ∙ c.if-is_finding.true);
-      low = c.loop-n-test.true;
-    }
+    let all = all_values (λ (m : Mark). m.number) 1024 c.all.ensures in
+    let here =
+    nth_from_yields_List (Some c.in-Some.mark) c.nth.new.self c.args.k c.in-Some.ensures.ran
+    (YieldsList-from_filter _ (finding M) (YieldsList-at c.filter.ensures.source all) c.filter.ensures.closure (λ x r q k. search (rules, tests))) in
+    ap (λ o. ok_or o (length (findings_in M))) (ap Some c.number.ensures.value ∙ here ∙ ap (λ xs. slice_get xs c.args.k) (found_all M))
 
-pub loop-n-preserved : goal.loop-n-preserved
-loop-n-preserved c =
+pub returns-in-None-clause-value : goal.returns-in-None-clause-value
+returns-in-None-clause-value c =
     let M = members c.args.self.now.marks in
-    let n = c.loop-n.n in
-    elim c.if-is_finding.branch [
-      | then-is_finding+else-seen-k w ↦
-          (omega (arith, w.seen-is), omega (arith, w.seen-is, w.if-seen-k.false), w.seen-is ∙ count_hit M n _ c.loop-n.invariant.2 (sym c.is_finding.ensures ∙ w.if-is_finding.true))
-      | else-is_finding w ↦
-          (omega (arith, w.seen-is), omega (arith, w.seen-is), w.seen-is ∙ count_miss M n _ c.loop-n.invariant.2 (sym c.is_finding.ensures ∙ w.if-is_finding.false))
-    ]
-
-pub returns : goal.returns
-returns c =
-    let M = members c.args.self.now.marks in
-    let e : c.loop-n.n ≡ 1024 = omega arith in
-    record {
-      value = found_past M c.args.k c.loop-n.seen c.loop-n.invariant.1 (c.loop-n.invariant.2 ∙ ap (λ n. length (found M n)) e);
-      low = omega arith;
-    }
+    let all = all_values (λ (m : Mark). m.number) 1024 c.all.ensures in
+    let past =
+    nth_from_yields_List None c.nth.new.self c.args.k c.in-None.ensures.ran
+    (YieldsList-from_filter _ (finding M) (YieldsList-at c.filter.ensures.source all) c.filter.ensures.closure (λ x r q k. search (rules, tests))) in
+    ap Err c.findings.ensures.value ∙ ap (λ o. ok_or o (length (findings_in M))) (past ∙ ap (λ xs. slice_get xs c.args.k) (found_all M))

@@ -1,16 +1,17 @@
-use Rattle.std.proofs.Common.{◌+◌, map, take, sym, refl, ap, ◌∙◌, arith}
-use Rattle.steps.specs.Standing.{step_of}
+use Rattle.std.proofs.Common.{◌≡◌, ◌+◌, ◌<◌, ◌∷◌, [], ◌++◌, map, length, set, ap, ◌∙◌, ap₂, arith, rules}
+use Rattle.steps.specs.Standing.{step_with, step_of}
 use Rattle.steps.proofs.Places.{length_standing, standing_more}
 use Rattle.steps.proofs.table.Table.add.Goals as goal
 
-pub returns-then-at-ge64 : goal.returns-then-at-ge64
-returns-then-at-ge64 c = (length_standing c.args.self.now ∙ omega (arith, c.args.self.now.room), refl)
-
 pub returns : goal.returns
 returns c =
-    let t = c.args.self.now in (
-      ap (λ n. n + 1) (sym (length_standing t)),
-      omega (arith, length_standing t),
-      ap (λ rs. map step_of (take (t.count + 1) rs)) c.fill.ensures
-          ∙ standing_more t.places.records t.count _ (omega (arith, t.all)),
+    let rs = c.args.self.now.records.items in
+    let r = c.fill.new.self in
+    let count = length_standing c.args.self.now in
+    let room : length rs < 64 = search rules in
+    let pushed : c.try_push.new.self.items ≡ rs ++ c.default.result ∷ [] = search rules in (
+      ap (λ n. n + 1) c.len-at.ensures.value,
+      omega (arith, count),
+      ap₂ (λ xs n. map step_of (set xs n r)) pushed (c.len-at.ensures.value ∙ count) ∙ standing_more rs c.default.result r
+          ∙ ap₂ (λ said marks. map step_of rs ++ step_with said marks ∷ []) c.fill.ensures.said c.fill.ensures.marks,
     )

@@ -3,5 +3,5 @@ use Rattle.norms.specs.Findings.{dated_from}
 use Rattle.steps.specs.Standing.{standing}
 use Rattle.steps.proofs.table.Table.finding.Given as goal
 
-abbrev pub invariant-loop-i : goal.invariant-loop-i
-invariant-loop-i l = (l.seen ≤ l.k) × (l.seen ≤ 1024 * l.i) × (l.seen ≡ length (dated_from 1 (take l.i (standing l.self))))
+abbrev pub invariant-loop-at : goal.invariant-loop-at
+invariant-loop-at l = (l.seen ≤ l.k) × (l.seen ≤ 1024 * l.at) × (l.seen ≡ length (dated_from 1 (take l.at (standing l.self))))

@@ -1,4 +1,5 @@
-use Rattle.std.proofs.Common.{sym, ap, ◌∙◌}
+use Rattle.std.proofs.Common.{◌≡◌, MatchOption, rules}
+use Rattle.marks.specs.Sets.{nothing}
 use Rattle.marks.specs.Words.{members}
 use Rattle.norms.specs.Steps.{handed_on}
 use Rattle.steps.proofs.Places.{inherited_standing}
@@ -6,7 +7,5 @@ use Rattle.steps.proofs.table.Table.inherited.Goals as goal
 
 pub returns : goal.returns
 returns c =
-    let r = c.index-self-self in
-    c.hands_on.ensures
-    ∙ ap (λ x. handed_on (members x.marks)) (sym r.is)
-    ∙ inherited_standing c.args.self.now r.result c.if-self-eq0.false r.is
+    let handed : MatchOption c.last.result (members c.map_or_else.result ≡ nothing) (λ r. members c.map_or_else.result ≡ handed_on (members r.now.marks)) = search rules in
+    inherited_standing c.args.self.now.records.items c.last.result (members c.map_or_else.result) (search rules) handed

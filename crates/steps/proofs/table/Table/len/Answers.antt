@@ -1,6 +1,6 @@
-use Rattle.std.proofs.Common.{sym}
+use Rattle.std.proofs.Common.{sym, ◌∙◌}
 use Rattle.steps.proofs.Places.{length_standing}
 use Rattle.steps.proofs.table.Table.len.Goals as goal
 
-pub returns : goal.returns
-returns c = record { value = sym (length_standing c.args.self.now); room = c.args.self.now.room }
+pub returns-clause-value : goal.returns-clause-value
+returns-clause-value c = c.len.ensures.value ∙ sym (length_standing c.args.self.now)

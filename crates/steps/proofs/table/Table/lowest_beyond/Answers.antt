@@ -1,27 +1,34 @@
-use Rattle.std.proofs.Common.{◌+◌, Some, ap, ◌∙◌, arith}
+use Rattle.std.proofs.Common.{◌≡◌, ◌+◌, Some, get_or, ap, ◌∙◌, length, arith}
+use Rattle.marks.specs.Words.{members}
 use Rattle.norms.specs.Scenarios.{marks_of}
-use Rattle.norms.proofs.Lowest.{Covered}
+use Rattle.norms.specs.Traces.{of_step}
 use Rattle.steps.specs.Standing.{standing}
-use Rattle.steps.proofs.Comparing.{lowest_at, none_at, none_left}
+use Rattle.steps.proofs.Comparing.{lowest_at, none_at, none_left, covered_first}
+use Rattle.steps.proofs.Places.{marks_here}
 use Rattle.steps.proofs.table.Table.lowest_beyond.Goals as goal
-use Rattle.steps.proofs.table.Table.lowest_beyond.Goals.{In_default}
+
+pub loop-at-init : goal.loop-at-init
+loop-at-init c = covered_first (marks_of (standing c.args.self.now)) (marks_of (standing c.args.other.now))
 
 pub returns-in-Some : goal.returns-in-Some
 returns-in-Some c =
-    lowest_at (marks_of (standing c.args.self.now)) (marks_of (standing c.args.other.now)) c.loop-step.step c.marks_of.result c.marks_of-in-loop-step.result
-    c.marks_of.ensures c.marks_of-in-loop-step.ensures c.loop-step.invariant c.number.result (ap Some c.number.ensures.value ∙ c.in-Some.ensures)
+    let r = c.record-item.result in
+    let i = c.loop-at.at in
+    let items = c.deref-record-items.ensures.0 in
+    let own : members c.marks.result.now ≡ of_step (marks_of (standing c.args.self.now)) (i + 1) =
+    ap members c.marks.ensures ∙ marks_here c.args.self.now.records.items i r (omega (arith, c.loop-at-test.true, ap length items)) (c.record-item.is ∙ ap (λ rs. get_or rs i r) items) in
+    lowest_at (marks_of (standing c.args.self.now)) (marks_of (standing c.args.other.now)) (i + 1) c.marks.result.now c.marks_of.result
+    own c.marks_of.ensures c.loop-at.invariant c.number.result (ap Some c.number.ensures.value ∙ c.in-Some.ensures)
 
-covered_on : (c : In_default) → Covered (marks_of (standing c.args.self.now)) (marks_of (standing c.args.other.now)) (c.loop-step.step + 1)
-covered_on c =
-    none_at (marks_of (standing c.args.self.now)) (marks_of (standing c.args.other.now)) c.loop-step.step c.marks_of.result c.marks_of-in-loop-step.result
-    c.marks_of.ensures c.marks_of-in-loop-step.ensures c.loop-step.invariant c.in_default.ensures
-
-pub loop-step-preserved : goal.loop-step-preserved
-loop-step-preserved c = covered_on (goal.at.loop-step-preserved c).In_default
+pub loop-at-preserved : goal.loop-at-preserved
+loop-at-preserved c =
+    let r = c.record-item.result in
+    let i = c.loop-at.at in
+    let items = c.deref-record-items.ensures.0 in
+    let own : members c.marks.result.now ≡ of_step (marks_of (standing c.args.self.now)) (i + 1) =
+    ap members c.marks.ensures ∙ marks_here c.args.self.now.records.items i r (omega (arith, c.loop-at-test.true, ap length items)) (c.record-item.is ∙ ap (λ rs. get_or rs i r) items) in
+    none_at (marks_of (standing c.args.self.now)) (marks_of (standing c.args.other.now)) (i + 1) c.marks.result.now c.marks_of.result
+    own c.marks_of.ensures c.loop-at.invariant c.in_default.ensures
 
 pub returns : goal.returns
-returns c = none_left c.args.self.now c.args.other.now c.loop-step.step c.loop-step-test.false c.loop-step.invariant
-
-pub returns-in_default : goal.returns-in_default
-returns-in_default c =
-    none_left c.args.self.now c.args.other.now (c.loop-step.step + 1) (omega arith) (covered_on (goal.at.returns-in_default c).In_default)
+returns c = none_left c.args.self.now c.args.other.now (c.loop-at.at + 1) (omega (arith, ap length c.deref-record-items.ensures.0)) c.loop-at.invariant

@@ -1,7 +1,8 @@
+use Rattle.std.proofs.Common.{◌+◌}
 use Rattle.norms.specs.Scenarios.{marks_of}
 use Rattle.norms.proofs.Lowest.{Covered}
 use Rattle.steps.specs.Standing.{standing}
 use Rattle.steps.proofs.table.Table.lowest_beyond.Given as goal
 
-abbrev pub invariant-loop-step : goal.invariant-loop-step
-invariant-loop-step l = Covered (marks_of (standing l.self)) (marks_of (standing l.other)) l.step
+abbrev pub invariant-loop-at : goal.invariant-loop-at
+invariant-loop-at l = Covered (marks_of (standing l.self)) (marks_of (standing l.other)) (l.at + 1)

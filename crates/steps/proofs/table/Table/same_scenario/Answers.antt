@@ -1,16 +1,17 @@
-use Rattle.std.proofs.Common.{refl, arith, rules, below_more}
-use Rattle.std.proofs.lemmas.Bool.{false≢true}
-use Rattle.steps.proofs.Comparing.{same_said, said_apart}
+use Rattle.std.proofs.Common.{◌≡◌, length, arith, rules}
+use borrow.Author.Tests.{tests}
+use Rattle.std.proofs.lemmas.Iterator.{cases_from_all, YieldsList-from_slice, YieldsList-from_zip}
+use Rattle.steps.proofs.Comparing.{SaidSame, SaidOther, said_decided}
+use Rattle.steps.proofs.Places.{length_standing}
 use Rattle.steps.proofs.table.Table.same_scenario.Goals as goal
 
-pub returns-then-self-other : goal.returns-then-self-other
-returns-then-self-other c =
-    (λ t. absurd (false≢true t), λ same. absurd (said_apart c.args.self.now c.args.other.now c.if-self-other.true same))
-
-pub returns-else-self-other : goal.returns-else-self-other
-returns-else-self-other c =
-    (λ _. same_said c.args.self.now c.args.other.now c.loop-step.step c.if-self-other.false c.loop-step-test.false c.loop-step.invariant, λ _. refl)
-
-pub returns-else-not-same_marks : goal.returns-else-not-same_marks
-returns-else-not-same_marks c =
-    (λ _. same_said c.args.self.now c.args.other.now _ c.if-self-other.false (omega arith) (below_more _ _ c.loop-step.invariant (search rules)), λ _. refl)
+pub returns-then-len : goal.returns-then-len
+returns-then-len c =
+    let rs = c.args.self.now.records.items in
+    let us = c.args.other.now.records.items in
+    let own : c.zip.result.a.rest.now ≡ rs = search rules in
+    let its : c.zip.result.b.rest.now ≡ us = search rules in
+    let long : length rs ≡ length us = omega (arith, length_standing c.args.self.now, length_standing c.args.other.now, c.len.ensures.value, c.len-2.ensures.value) in
+    said_decided rs us c.all.result long
+    (cases_from_all c.all.new.self _ _ SaidSame SaidOther c.all.ensures.ran (YieldsList-from_zip (YieldsList-from_slice rs own) (YieldsList-from_slice us its))
+    (λ x q k. search (rules, tests)) (λ x q k. search (rules, tests)))

@@ -1,9 +1,7 @@
-use Rattle.std.proofs.Common.{arith}
-use Rattle.steps.proofs.Numbered.{first_steps, all_steps}
+use Rattle.std.proofs.Common.{map, sym, ap, ◌∙◌}
+use Rattle.std.proofs.lemmas.List.{take-map}
+use Rattle.steps.specs.Standing.{step_of}
 use Rattle.steps.proofs.table.Table.truncate.Goals as goal
 
-pub returns-then-n-self : goal.returns-then-n-self
-returns-then-n-self c = first_steps c.args.self.now c.args.n (omega arith)
-
-pub returns-else-n-self : goal.returns-else-n-self
-returns-else-n-self c = all_steps c.args.self.now c.args.n (omega arith)
+pub returns : goal.returns
+returns c = ap (map step_of) c.truncate.ensures.items ∙ sym (take-map step_of c.args.n c.args.self.now.records.items)

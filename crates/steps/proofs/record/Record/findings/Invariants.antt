@@ -1,7 +1,0 @@
-use Rattle.std.proofs.Common.{◌≡◌, ◌≤◌, length}
-use Rattle.marks.specs.Words.{members}
-use Rattle.steps.proofs.Found.{found}
-use Rattle.steps.proofs.record.Record.findings.Given as goal
-
-abbrev pub invariant-loop-n : goal.invariant-loop-n
-invariant-loop-n l = (l.count ≤ l.n) × (l.count ≡ length (found (members l.self.marks) l.n))
