@@ -13,16 +13,7 @@ impl Attribute {
         ensures value { result ≡ attribute_number self }
         ensures low { result < 8 }
     {
-        match self {
-            Attribute::Carried => 0,
-            Attribute::Holds => 1,
-            Attribute::Enabled => 2,
-            Attribute::Triggered => 3,
-            Attribute::Created => 4,
-            Attribute::Ended => 5,
-            Attribute::Violated => 6,
-            Attribute::Breached => 7,
-        }
+        self as u8
     }
 }
 
@@ -85,6 +76,7 @@ impl Mark {
     pub fn attribute(self) -> Attribute
         ensures { attribute_number result ≡ attribute self.number }
     {
+        // Kept: no cast leads from a number to an enum.
         match self.number % 8 {
             0 => Attribute::Carried,
             1 => Attribute::Holds,
