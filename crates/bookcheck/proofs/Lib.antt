@@ -1,4 +1,5 @@
 pub mod Walk
+pub mod Any
 pub mod Passed
 pub mod ReadBack
 pub mod Accepted

@@ -1,5 +1,5 @@
 -- What is known of a file that passes the check. Assumes nothing.
-use Rattle.std.proofs.Common.{◌≡◌, ℕ, ◌+◌, ◌<◌, ◌≤◌, false, ◌||◌, eqb, ltb, List, length, get_or, None, ap, arith}
+use Rattle.std.proofs.Common.{◌≡◌, ℕ, ◌+◌, ◌<◌, ◌≤◌, false, ◌||◌, eqb, ltb, List, length, get_or, None}
 use Rattle.std.proofs.lemmas.Bool.{ltb-false, or_parts}
 use Rattle.refusals.specs.declared.Section.TheVariants.{Rules}
 use Rattle.refusals.specs.Checks.{first_below}
@@ -40,11 +40,3 @@ module _ (bs : List ℕ) (from n : ℕ) (passed : first_below n (name_check bs f
 
   pub name_short : get_or bs (name_at bs from k) 0 ≤ 32
   name_short = ltb-false _ _ (or_parts _ _ name_sized).1
-
-  -- the same at a place where name k stands
-  module _ (place : ℕ) (here : place ≡ name_at bs from k) where
-    pub place_within : place + 1 + get_or bs place 0 ≤ length bs
-    place_within = omega (arith, name_within, ap (λ p. get_or bs p 0) here)
-
-    pub place_short : get_or bs place 0 ≤ 32
-    place_short = omega (arith, name_short, ap (λ p. get_or bs p 0) here)

@@ -1,4 +1,5 @@
 pub mod Layout
 pub mod Checks
 pub mod Faults
+pub mod Views
 pub mod Written

@@ -8,7 +8,7 @@ use reading::ReadFault;
 use refusals::{Fault, Item, Told};
 use rows::RowFault;
 
-#[derive(Clone, Copy)]
+#[derive(Clone, Copy, PartialEq, Eq, Debug)]
 pub enum NameFault {
     // The whole name is not there.
     Read(ReadFault),
@@ -38,7 +38,7 @@ impl Fault for NameFault {
     }
 }
 
-#[derive(Clone, Copy)]
+#[derive(Clone, Copy, PartialEq, Eq, Debug)]
 pub enum BookFault {
     // A count is not there or too large, or bytes are left over.
     Read(ReadFault),

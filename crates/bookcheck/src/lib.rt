@@ -1,9 +1,14 @@
-// The check of a book file.
+// A book file: its check, and what stands in it.
 #![tactic(auto)]
 
-mod book_check;
+mod book;
 mod fault;
-mod name_check;
+mod name_iter;
+mod name_table;
+mod rule_table;
 
-pub use book_check::check_book;
+pub use book::{BookParts, check_book, read_book};
 pub use fault::{BookFault, NameFault};
+pub use name_iter::NameIter;
+pub use name_table::NameTable;
+pub use rule_table::RuleTable;

@@ -1,13 +1,18 @@
 -- What rows and names answer to the questions of a book. Assumes nothing.
-use Rattle.std.proofs.Common.{◌≡◌, ℕ, ◌+◌, ◌<◌, ◌≤◌, List, length, get_or, take, drop, Some, None, Option, sym, ap, ◌∙◌, arith, MatchOption}
+use Rattle.std.proofs.Common.{◌≡◌, ℕ, ◌+◌, ◌<◌, ◌≤◌, List, length, get_or, take, drop, Some, None, Option, sym, ap, ◌∙◌, arith, MatchOption, IfSome, ⊎_elim}
 use Rattle.std.specs.List.{slice_get}
 use Rattle.marks.specs.declared.mark.Mark.{Mark}
 use Rattle.books.specs.Asked.{head_of, counts_of, body_of, numbered}
 use Rattle.books.proofs.Counted.{nth_counted, nth_counted_past, made_mark, head_is, counts_are, body_is}
 use Rattle.rows.specs.Rows.{head, required_count, barred_count, body_count, mark_at, marks}
 use Rattle.rows.specs.Tables.{row_in, rule_in, rules_in}
-use Rattle.reading.specs.Reads.{part}
 use Rattle.bookcheck.specs.Layout.{name_at, name_in, names_in}
+use Rattle.bookcheck.specs.Checks.{name_check}
+use Rattle.bookcheck.proofs.Passed.{name_short}
+use Rattle.refusals.specs.Checks.{first_below}
+use Rattle.std.specs.Option.{option_map}
+use Rattle.std.proofs.lemmas.List.{length-take}
+use Rattle.std.proofs.lemmas.Bool.{cases_lt}
 use Rattle.rows.proofs.Sound.{body_marks, length_required, length_barred}
 
 module _ (bs : List ℕ) (from count n : ℕ) where
@@ -33,6 +38,19 @@ module _ (bs : List ℕ) (from count n : ℕ) where
   pub body_past : (k : ℕ) → n < count → body_count (row_in bs from n) ≤ k → None ≡ body_of (rules_in bs from count) n k
   body_past k here past = sym (body_in k here ∙ nth_counted_past (mark_at (row_in bs from n)) _ k past)
 
--- a name that was read where name n stands
-pub name_told : (bs : List ℕ) (from count n place : ℕ) (name : List ℕ) → place ≡ name_at bs from n → name ≡ part bs (place + 1) (get_or bs place 0) → n < count → Some name ≡ slice_get (names_in bs from count) n
-name_told bs from count n place name e f here = ap Some (f ∙ ap (λ p. part bs (p + 1) (get_or bs p 0)) e) ∙ sym (nth_counted (name_in bs from) count n here)
+-- what is found at the place of an instance among names that pass
+pub short_told : {A : Type 0} (view : A → List ℕ) (bs : List ℕ) (from count n : ℕ) → first_below count (name_check bs from) ≡ None → (r : Option A) → option_map view r ≡ slice_get (names_in bs from count) n → IfSome r (λ x. length (view x) ≤ 32)
+short_told view bs from count n passed None found = tt
+short_told view bs from count n passed (Some x) found =
+    ⊎_elim
+    (λ (below : n < count).
+    let e : view x ≡ name_in bs from n = some_is (found ∙ nth_counted (name_in bs from) count n below) in
+    omega (arith, ap length e, length-take (get_or bs (name_at bs from n) 0) (drop (name_at bs from n + 1) bs), name_short bs from count passed n below))
+    (λ (past : count ≤ n). absurd (no_name (found ∙ nth_counted_past (name_in bs from) count n past)))
+    (cases_lt n count)
+  where
+    some_is : {x y : List ℕ} → Some x ≡ Some y → x ≡ y
+    some_is e = cc
+
+    no_name : {x : List ℕ} → ◌≡◌ {A = Option (List ℕ)} (Some x) None → ⊥
+    no_name e = cc

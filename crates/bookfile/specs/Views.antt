@@ -3,13 +3,12 @@
 --     name_list s   the names of a `Names`
 use Rattle.std.specs.Prelude.{ℕ, List}
 use Rattle.norms.specs.Programs.{Rule}
-use Rattle.rows.specs.Tables.{rules_in}
+use Rattle.bookcheck.specs.Views.{table_rules, table_names}
 use Rattle.bookfile.specs.declared.file_book.FileBook.{FileBook}
 use Rattle.bookfile.specs.declared.name_list.Names.{Names}
-use Rattle.bookcheck.specs.Layout.{rows_from, names_in}
 
 abbrev pub rules_of : FileBook → List (Rule ℕ)
-rules_of b = rules_in b.bytes.now rows_from b.count
+rules_of b = table_rules b.rules
 
 abbrev pub name_list : Names → List (List ℕ)
-name_list s = names_in s.bytes.now s.from s.count
+name_list s = table_names s.names

@@ -3,7 +3,6 @@
 
 mod file_book;
 mod name_list;
-mod places;
 
 pub use bookcheck::{BookFault, NameFault, check_book};
 pub use file_book::FileBook;

@@ -32,6 +32,13 @@ impl<'a> Reader<'a> {
         Ok(())
     }
 
+    // All bytes, from the front on.
+    pub fn bytes(&self) -> &'a [u8]
+        ensures { result.now ≡ self.now.bytes.now }
+    {
+        self.bytes
+    }
+
     // The offset of the next byte.
     pub fn at(&self) -> usize
         ensures value { result ≡ self.now.at }

@@ -1,31 +1,16 @@
-use Rattle.std.proofs.Common.{◌≤◌, sym, ap, ◌∙◌, arith}
+use Rattle.std.proofs.Common.{◌≡◌, ℕ, List, Bor, ap, ◌∙◌}
 use Rattle.std.specs.List.{slice_get}
+use Rattle.std.specs.Option.{option_map}
+use Rattle.std.proofs.lemmas.Iterator.Consumers.{YieldsList-from_first, nth_from_yields_List}
 use Rattle.refusals.proofs.Passed.{none_from}
-use Rattle.bookcheck.specs.Layout.{names_in, name_in}
-use Rattle.books.proofs.Counted.{nth_counted_past}
-use Rattle.bookfile.proofs.Asked.{name_told}
-use Rattle.bookcheck.proofs.Passed.{place_within, place_short}
+use Rattle.bookcheck.specs.Views.{table_names, names_left}
+use Rattle.bookfile.proofs.Asked.{short_told}
 use Rattle.bookfile.proofs.name_list.Names.name.Goals as goal
 
-pub name_at-requires : goal.name_at-requires
-name_at-requires c =
-    place_within c.args.self.now.bytes.now c.args.self.now.from c.args.self.now.count (none_from _ c.args.self.now.checked)
-    c.number-n.result c.if-n-self.true c.place.result c.place.ensures
-
-pub returns-then-n-self : goal.returns-then-n-self
-returns-then-n-self c = record {
-  value =
-      name_told c.args.self.now.bytes.now c.args.self.now.from c.args.self.now.count c.number-n.result c.place.result c.name_at.result.now
-      c.place.ensures c.name_at.ensures.value c.if-n-self.true
-      ∙ ap (slice_get (names_in c.args.self.now.bytes.now c.args.self.now.from c.args.self.now.count)) c.number-n.ensures.value;
-  short =
-      omega (arith, place_short c.args.self.now.bytes.now c.args.self.now.from c.args.self.now.count (none_from _ c.args.self.now.checked) c.number-n.result c.if-n-self.true c.place.result c.place.ensures);
-}
-
-pub returns-else-n-self : goal.returns-else-n-self
-returns-else-n-self c = record {
-  value =
-      let past : c.args.self.now.count ≤ c.args.instance.number = omega arith in
-      sym (nth_counted_past (name_in c.args.self.now.bytes.now c.args.self.now.from) c.args.self.now.count c.args.instance.number past);
-  short = tt;
-}
+pub returns : goal.returns
+returns c =
+    let t = c.args.self.now.names in
+    let found : option_map (λ (x : Bor (List ℕ)). x.now) c.nth.result ≡ slice_get (table_names t) c.args.instance.number =
+    nth_from_yields_List c.nth.result c.nth.new.self c.from.result c.nth.ensures.ran (YieldsList-from_first (λ x. x.now) names_left {s = c.iter.result} (table_names t) c.iter.ensures)
+    ∙ ap (slice_get (table_names t)) (c.from.ensures ∙ c.number.ensures.value) in
+    record { value = found; short = short_told (λ (x : Bor (List ℕ)). x.now) t.bytes.now t.from t.count c.args.instance.number (none_from _ t.checked) c.nth.result found }

@@ -1,13 +1,14 @@
+use Rattle.std.proofs.Common.{◌∙◌}
 use Rattle.rows.specs.Tables.{rule_in}
 use Rattle.books.proofs.Counted.{counts_past}
 use Rattle.bookcheck.specs.Layout.{rows_from}
 use Rattle.bookfile.proofs.Asked.{counts_told}
 use Rattle.bookfile.proofs.file_book.methods.FileBookBook.counts.Goals as goal
 
-pub returns-then-n-self : goal.returns-then-n-self
-returns-then-n-self c =
-    counts_told c.args.self.now.bytes.now rows_from c.args.self.now.count c.args.n c.row-row.result.now _ _
-    c.row-row.ensures c.byte_at.ensures.value c.byte_at-then-n-self.ensures.value c.if-n-self.true
+pub returns-in_err-row : goal.returns-in_err-row
+returns-in_err-row c = c.from_residual.ensures ∙ counts_past (rule_in c.args.self.now.rules.bytes.now rows_from) c.args.self.now.rules.count c.args.n c.in_err-row.ensures
 
-pub returns-else-n-self : goal.returns-else-n-self
-returns-else-n-self c = counts_past (rule_in c.args.self.now.bytes.now rows_from) c.args.self.now.count c.args.n c.if-n-self.false
+pub returns : goal.returns
+returns c =
+    counts_told c.args.self.now.rules.bytes.now rows_from c.args.self.now.rules.count c.args.n c.in_ok-row.row.bytes.now _ _
+    c.in_ok-row.ensures.1 c.required.ensures c.barred.ensures c.in_ok-row.ensures.0

@@ -1,3 +1,5 @@
+use Rattle.std.proofs.Common.{ap, ◌∙◌}
+use Rattle.books.specs.Asked.{numbered}
 use Rattle.refusals.specs.declared.Section.TheVariants.{Rules}
 use Rattle.refusals.proofs.Passed.{none_from}
 use Rattle.rows.proofs.Sound.{head_low_in}
@@ -7,12 +9,13 @@ use Rattle.bookcheck.specs.Layout.{rows_from}
 use Rattle.bookfile.proofs.Asked.{head_told}
 use Rattle.bookfile.proofs.file_book.methods.FileBookBook.head.Goals as goal
 
-pub returns-then-n-self : goal.returns-then-n-self
-returns-then-n-self c =
-    head_told c.args.self.now.bytes.now rows_from c.args.self.now.count c.args.n c.row.result.now c.new.result c.pair_at.result
-    c.row.ensures c.pair_at.ensures c.new.ensures
-    (head_low_in Rules c.args.self.now.bytes.now rows_from c.args.self.now.count (none_from _ c.args.self.now.checked) c.args.n c.if-n-self.true)
-    c.if-n-self.true
+pub returns-in_err-row : goal.returns-in_err-row
+returns-in_err-row c = ap numbered c.from_residual.ensures ∙ head_past (rule_in c.args.self.now.rules.bytes.now rows_from) c.args.self.now.rules.count c.args.n c.in_err-row.ensures
 
-pub returns-else-n-self : goal.returns-else-n-self
-returns-else-n-self c = head_past (rule_in c.args.self.now.bytes.now rows_from) c.args.self.now.count c.args.n c.if-n-self.false
+pub returns : goal.returns
+returns c =
+    let t = c.args.self.now.rules in
+    head_told t.bytes.now rows_from t.count c.args.n c.in_ok-row.field-0.bytes.now c.new.result c.head.result
+    c.in_ok-row.ensures.1 c.head.ensures c.new.ensures
+    (head_low_in Rules t.bytes.now rows_from t.count (none_from _ t.checked) c.args.n c.in_ok-row.ensures.0)
+    c.in_ok-row.ensures.0

@@ -1,7 +1,0 @@
-use Rattle.std.proofs.Common.{◌≡◌, None}
-use Rattle.refusals.specs.Checks.{first_below}
-use Rattle.bookcheck.specs.Checks.{uses_check}
-use Rattle.bookcheck.proofs.book_check.check_all_uses.Given as goal
-
-abbrev pub invariant-loop-n : goal.invariant-loop-n
-invariant-loop-n l = first_below l.n (uses_check l.names l.bytes) ≡ None

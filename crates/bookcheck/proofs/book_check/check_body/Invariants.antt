@@ -1,7 +1,0 @@
-use Rattle.std.proofs.Common.{◌≡◌, None}
-use Rattle.refusals.specs.Checks.{first_below}
-use Rattle.bookcheck.specs.Checks.{body_check}
-use Rattle.bookcheck.proofs.book_check.check_body.Given as goal
-
-abbrev pub invariant-loop-k : goal.invariant-loop-k
-invariant-loop-k l = first_below l.k (body_check l.names l.bytes l.n) ≡ None
