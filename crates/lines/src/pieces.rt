@@ -7,6 +7,7 @@ ghost use Rattle.lines.specs.Writing.{Writes};
 use crate::fault::Short;
 
 // How many bytes the pieces have together.
+#[tactic(auto, using(crate::proofs::Joined::joined_length))]
 fn joined_len(pieces: &[&[u8]]) -> usize
     requires { length (joined pieces.now) < 2 ^ 64 }
     ensures { result ≡ length (joined pieces.now) }
@@ -15,6 +16,7 @@ fn joined_len(pieces: &[&[u8]]) -> usize
 }
 
 // Writes the pieces one after another, and answers how many bytes they have together.
+#[tactic(auto, using(crate::proofs::Joined::joined_before))]
 pub(crate) fn write_pieces(buffer: &mut [u8], pieces: &[&[u8]]) -> Result<usize, Short>
     requires { length (joined pieces.now) < 2 ^ 64 }
     ensures { Writes short_told (joined pieces.now) buffer.old buffer.new result }
