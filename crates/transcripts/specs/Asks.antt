@@ -1,8 +1,9 @@
 -- What is asked of a review, and what it replies. Assumes nothing.
 --     Ask        a call with its arguments
---     Reply      the values of its answer, or the refusal; or none so far
---     Exchange   what was asked and the words that were lent with it, the reply, and what these words held afterwards
-use Rattle.std.specs.Prelude.{ℕ, Bool, List, Result}
+--     Reply      the values of its answer, or the refusal
+--     Exchange   what was asked and the words that were lent with it, the reply, or none so far, and what these words held
+--                afterwards
+use Rattle.std.specs.Prelude.{ℕ, Bool, List, Option, Result}
 use Rattle.refusals.specs.declared.Told.{Told}
 use Rattle.review.specs.declared.review.Accepted.{Accepted}
 use Rattle.review.specs.declared.review.Shown.{Shown}
@@ -15,7 +16,6 @@ pub data Ask : Type 0 where
   show : (step : ℕ) → Ask
 
 pub data Reply : Type 0 where
-  unanswered : Reply
   judged : Result Accepted Told → Reply
   went_back : Result ℕ Told → Reply
   looked : Result Bool Told → Reply
@@ -25,5 +25,5 @@ pub data Reply : Type 0 where
 pub record Exchange : Type 0 where
   pub ask : Ask
   pub words : List ℕ
-  pub reply : Reply
+  pub reply : Option Reply
   pub after : List ℕ

@@ -2,7 +2,7 @@
 use review::{Accepted, BackFault, ListFault, LookFault, ProposeFault, ShowFault, Shown};
 
 // A call with its arguments.
-#[derive(Drop)]
+#[derive(PartialEq, Eq, Debug, Drop)]
 pub enum Call {
     Propose { said: Vec<u16>, proposed: Vec<u16> },
     GoBack { n: usize },
@@ -13,10 +13,8 @@ pub enum Call {
 }
 
 // What a call answered.
-#[derive(Drop)]
+#[derive(Clone, Copy, PartialEq, Eq, Debug)]
 pub enum Answer {
-    // It was not heard yet.
-    Unanswered,
     Proposed(Result<Accepted, ProposeFault>),
     WentBack(Result<usize, BackFault>),
     Looked(Result<bool, LookFault>),
@@ -24,10 +22,10 @@ pub enum Answer {
     Shown(Result<Shown, ShowFault>),
 }
 
-// A call, the words that are lent with it, and the place for its answer. Only `Show` writes words.
-#[derive(Drop)]
+// A call, the words that are lent with it, and its answer; none before it was heard. Only `Show` writes words.
+#[derive(PartialEq, Eq, Debug, Drop)]
 pub struct Exchange {
     pub call: Call,
     pub words: Vec<u64>,
-    pub answer: Answer,
+    pub answer: Option<Answer>,
 }

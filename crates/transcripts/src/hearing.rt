@@ -1,5 +1,5 @@
 // Hearing calls one after the other.
-ghost use Rattle.std.specs.Prelude.{◌≡◌, List};
+ghost use Rattle.std.specs.Prelude.{◌≡◌, List, Some};
 ghost use Rattle.steps.specs.Standing.{standing};
 ghost use Rattle.transcripts.specs.Hearing.{Lists, steps_by, then, stands, Settles, Heard};
 ghost use Rattle.transcripts.specs.Views.{ask_of, reply_of, asks, transcript};
@@ -11,7 +11,7 @@ use review::Review;
 // Makes the call, and gives its answer.
 fn answer<B: Book>(review: &mut Review<B>, call: &Call, words: &mut [u64]) -> Answer
     ensures settled { Settles (B.Book.rules review.old.book) (standing review.old.steps) words.old (ask_of call.now) (reply_of result) words.new }
-    ensures stands { (ls : List Lists) → standing review.old.steps ≡ steps_by ls → standing review.new.steps ≡ steps_by (then ls (ask_of call.now) (reply_of result)) }
+    ensures stands { (ls : List Lists) → standing review.old.steps ≡ steps_by ls → standing review.new.steps ≡ steps_by (then ls (ask_of call.now) (Some (reply_of result))) }
     ensures book { review.new.book ≡ review.old.book }
 {
     match call {
@@ -26,7 +26,7 @@ fn answer<B: Book>(review: &mut Review<B>, call: &Call, words: &mut [u64]) -> An
 // Makes the call of the exchange, and gives its answer.
 fn hear_one<B: Book>(review: &mut Review<B>, exchange: &mut Exchange) -> Answer
     ensures settled { Settles (B.Book.rules review.old.book) (standing review.old.steps) exchange.old.words.items (ask_of exchange.old.call) (reply_of result) exchange.new.words.items }
-    ensures stands { (ls : List Lists) → standing review.old.steps ≡ steps_by ls → standing review.new.steps ≡ steps_by (then ls (ask_of exchange.old.call) (reply_of result)) }
+    ensures stands { (ls : List Lists) → standing review.old.steps ≡ steps_by ls → standing review.new.steps ≡ steps_by (then ls (ask_of exchange.old.call) (Some (reply_of result))) }
     ensures call { ask_of exchange.new.call ≡ ask_of exchange.old.call }
     ensures book { review.new.book ≡ review.old.book }
 {
@@ -40,8 +40,8 @@ pub fn hear<B: Book>(review: &mut Review<B>, exchanges: &mut [Exchange])
     ensures calls { asks exchanges.new ≡ asks exchanges.old }
     ensures book { review.new.book ≡ review.old.book }
 {
-    for i in 0..exchanges.len() {
-        let answer = hear_one(review, &mut exchanges[i]);
-        exchanges[i].answer = answer;
+    for exchange in exchanges.iter_mut() {
+        let answer = hear_one(review, exchange);
+        exchange.answer = Some(answer);
     }
 }

@@ -1,9 +1,10 @@
 -- The lists of a proposal pass their checks exactly where the proposal is free of the refusals before the judgement.
 -- Assumes nothing.
-use Rattle.std.proofs.Common.{◌≡◌, ℕ, zero, suc, ◌-◌, ◌<◌, Bool, true, false, ltb, leb, ◌↔◌, List, length, get_or, None, ap, ⊎_elim, arith}
+use Rattle.std.proofs.Common.{◌≡◌, ℕ, zero, suc, ◌+◌, ◌-◌, ◌<◌, Bool, true, false, not, ltb, leb, ◌↔◌, List, length, get_or, None, Option, refl, ap, ⊎_elim, arith}
 use Rattle.std.specs.List.{AllByRecursion}
 use Rattle.std.proofs.ByRecursion.{All-get_or, All-from_get_or}
 use Rattle.std.proofs.lemmas.Bool.{and_cases, not-false, not_from_true, ltb-false, leb-false, le-ltb, lt-leb}
+use Rattle.refusals.specs.declared.Told.{Told}
 use Rattle.refusals.specs.Telling.{refusal}
 use Rattle.refusals.specs.Checks.{refuse_if, ◌⨟◌}
 use Rattle.refusals.specs.Rising.{unrising}
@@ -11,7 +12,7 @@ use Rattle.refusals.proofs.Passed.{before_passed, after_passed, both_passed, tes
 use Rattle.refusals.proofs.Refused.{passed_if}
 use Rattle.refusals.proofs.Rising.{is_first, is_rising}
 use Rattle.norms.specs.Steps.{Step}
-use Rattle.lists.specs.Lists.{high, says, unsayable, said_mark, said_check, proposed_mark, proposed_check}
+use Rattle.lists.specs.Lists.{high, list_mark, list_check, says, bars_unsayable, bars_none, said_check, proposed_check}
 use Rattle.review.specs.Proposals.{lists_check}
 use Rattle.two_reviews.specs.Law.{Rising, Free}
 
@@ -42,86 +43,67 @@ module _ (xs : List ℕ) where
       (λ above. omega (arith, leb-false (get_or xs (suc i) 0) (get_or xs (suc i - 1) 0) above))
       (and_cases (ltb 0 (suc i)) (leb (get_or xs (suc i) 0) (get_or xs (suc i - 1) 0)) (none (suc i) within))
 
-  none_unsayable : AllByRecursion (λ m. says m ≡ true) xs → Nowhere unsayable xs
-  none_unsayable each i within = not_from_true (says (get_or xs i 0)) (All-get_or (λ m. says m ≡ true) xs i 0 within each)
+-- the check of a list whose refusals begin with n, with what it bars beside
+module _ (n : ℕ) (bars : ℕ → ℕ → Option Told) (xs : List ℕ) where
+  abbrev Unbarred : ℕ → Type 0
+  Unbarred i = bars (get_or xs i 0) i ≡ None
 
-  all_sayable : Nowhere unsayable xs → AllByRecursion (λ m. says m ≡ true) xs
-  all_sayable none = All-from_get_or (λ m. says m ≡ true) xs 0 (λ i within. not-false (says (get_or xs i 0)) (none i within))
-
--- the checks of one mark
-module _ (xs : List ℕ) (i : ℕ) where
-  said_mark_passed : said_mark xs i ≡ None → (high xs i ≡ false) × (unrising xs i ≡ false) × (unsayable xs i ≡ false)
-  said_mark_passed pass =
-      let first = refuse_if (high xs i) (refusal 22 i) in
-      let second = refuse_if (unrising xs i) (refusal 23 i) in
-      let third = refuse_if (unsayable xs i) (refusal 24 i) in
+  mark_passed : (i : ℕ) → list_mark n bars xs i ≡ None → (high xs i ≡ false) × (unrising xs i ≡ false) × Unbarred i
+  mark_passed i pass =
+      let first = refuse_if (high xs i) (refusal n i) in
+      let second = refuse_if (unrising xs i) (refusal (n + 1) i) in
+      let third = bars (get_or xs i 0) i in
       let front = before_passed (first ⨟ second) third pass in (
-        test_failed (high xs i) (refusal 22 i) (before_passed first second front),
-        test_failed (unrising xs i) (refusal 23 i) (after_passed first second front),
-        test_failed (unsayable xs i) (refusal 24 i) (after_passed (first ⨟ second) third pass),
+        test_failed (high xs i) (refusal n i) (before_passed first second front),
+        test_failed (unrising xs i) (refusal (n + 1) i) (after_passed first second front),
+        after_passed (first ⨟ second) third pass,
       )
 
-  said_mark_passes : high xs i ≡ false → unrising xs i ≡ false → unsayable xs i ≡ false → said_mark xs i ≡ None
-  said_mark_passes low rising sayable =
-      let first = refuse_if (high xs i) (refusal 22 i) in
-      let second = refuse_if (unrising xs i) (refusal 23 i) in
-      both_passed (first ⨟ second) (refuse_if (unsayable xs i) (refusal 24 i))
-      (both_passed first second (passed_if (high xs i) (refusal 22 i) low) (passed_if (unrising xs i) (refusal 23 i) rising))
-      (passed_if (unsayable xs i) (refusal 24 i) sayable)
+  mark_passes : (i : ℕ) → high xs i ≡ false → unrising xs i ≡ false → Unbarred i → list_mark n bars xs i ≡ None
+  mark_passes i low rising unbarred =
+      let first = refuse_if (high xs i) (refusal n i) in
+      let second = refuse_if (unrising xs i) (refusal (n + 1) i) in
+      both_passed (first ⨟ second) (bars (get_or xs i 0) i)
+      (both_passed first second (passed_if (high xs i) (refusal n i) low) (passed_if (unrising xs i) (refusal (n + 1) i) rising)) unbarred
 
-  proposed_mark_passed : proposed_mark xs i ≡ None → (high xs i ≡ false) × (unrising xs i ≡ false)
-  proposed_mark_passed pass =
-      let first = refuse_if (high xs i) (refusal 25 i) in
-      let second = refuse_if (unrising xs i) (refusal 26 i) in (
-        test_failed (high xs i) (refusal 25 i) (before_passed first second pass),
-        test_failed (unrising xs i) (refusal 26 i) (after_passed first second pass),
+  list_passed : list_check n bars xs ≡ None → AllByRecursion (λ m. m < 1024) xs × Rising xs × ((i : ℕ) → i < length xs → Unbarred i)
+  list_passed pass =
+      let each : (i : ℕ) → i < length xs → (high xs i ≡ false) × (unrising xs i ≡ false) × Unbarred i =
+      λ i within. mark_passed i (each_passed (list_mark n bars xs) (length xs) pass i within) in (
+        all_low xs (λ i within. (each i within).0),
+        all_rising xs (λ i within. (each i within).1),
+        (λ i within. (each i within).2),
       )
 
-  proposed_mark_passes : high xs i ≡ false → unrising xs i ≡ false → proposed_mark xs i ≡ None
-  proposed_mark_passes low rising =
-      both_passed (refuse_if (high xs i) (refusal 25 i)) (refuse_if (unrising xs i) (refusal 26 i))
-      (passed_if (high xs i) (refusal 25 i) low)
-      (passed_if (unrising xs i) (refusal 26 i) rising)
+  list_passes : AllByRecursion (λ m. m < 1024) xs → Rising xs → ((i : ℕ) → i < length xs → Unbarred i) → list_check n bars xs ≡ None
+  list_passes low rising unbarred =
+      all_passed (list_mark n bars xs) (length xs)
+      (λ i within. mark_passes i (none_high xs low i within) (none_unrising xs rising i within) (unbarred i within))
 
--- the checks of a whole list
+-- what a step may say is not barred
 module _ (xs : List ℕ) where
-  said_passed : said_check xs ≡ None → AllByRecursion (λ m. m < 1024) xs × Rising xs × AllByRecursion (λ m. says m ≡ true) xs
-  said_passed pass =
-      let each = each_passed (said_mark xs) (length xs) pass in (
-        all_low xs (λ i within. (said_mark_passed xs i (each i within)).0),
-        all_rising xs (λ i within. (said_mark_passed xs i (each i within)).1),
-        all_sayable xs (λ i within. (said_mark_passed xs i (each i within)).2),
-      )
+  none_unsayable : AllByRecursion (λ m. says m ≡ true) xs → (i : ℕ) → i < length xs → bars_unsayable (get_or xs i 0) i ≡ None
+  none_unsayable each i within =
+      let m = get_or xs i 0 in
+      passed_if (not (says m)) (refusal 24 i) (not_from_true (says m) (All-get_or (λ k. says k ≡ true) xs i 0 within each))
 
-  said_passes : AllByRecursion (λ m. m < 1024) xs → Rising xs → AllByRecursion (λ m. says m ≡ true) xs → said_check xs ≡ None
-  said_passes low rising sayable =
-      all_passed (said_mark xs) (length xs)
-      (λ i within. said_mark_passes xs i (none_high xs low i within) (none_unrising xs rising i within) (none_unsayable xs sayable i within))
-
-  proposed_passed : proposed_check xs ≡ None → AllByRecursion (λ m. m < 1024) xs × Rising xs
-  proposed_passed pass =
-      let each = each_passed (proposed_mark xs) (length xs) pass in (
-        all_low xs (λ i within. (proposed_mark_passed xs i (each i within)).0),
-        all_rising xs (λ i within. (proposed_mark_passed xs i (each i within)).1),
-      )
-
-  proposed_passes : AllByRecursion (λ m. m < 1024) xs → Rising xs → proposed_check xs ≡ None
-  proposed_passes low rising =
-      all_passed (proposed_mark xs) (length xs)
-      (λ i within. proposed_mark_passes xs i (none_high xs low i within) (none_unrising xs rising i within))
+  all_sayable : ((i : ℕ) → i < length xs → bars_unsayable (get_or xs i 0) i ≡ None) → AllByRecursion (λ m. says m ≡ true) xs
+  all_sayable none =
+      All-from_get_or (λ m. says m ≡ true) xs 0
+      (λ i within. not-false (says (get_or xs i 0)) (test_failed (not (says (get_or xs i 0))) (refusal 24 i) (none i within)))
 
 module _ (steps : List Step) (said proposed : List ℕ) where
   passed_free : lists_check steps said proposed ≡ None → Free steps said proposed
   passed_free pass =
       let full = refuse_if (leb 64 (length steps)) (refusal 21 64) in
       let front = before_passed (full ⨟ said_check said) (proposed_check proposed) pass in
-      let s = said_passed said (after_passed full (said_check said) front) in
-      let p = proposed_passed proposed (after_passed (full ⨟ said_check said) (proposed_check proposed) pass) in
+      let s = list_passed 22 bars_unsayable said (after_passed full (said_check said) front) in
+      let p = list_passed 25 bars_none proposed (after_passed (full ⨟ said_check said) (proposed_check proposed) pass) in
       record {
         room = leb-false 64 (length steps) (test_failed (leb 64 (length steps)) (refusal 21 64) (before_passed full (said_check said) front));
         said_low = s.0;
         said_rising = s.1;
-        sayable = s.2;
+        sayable = all_sayable said s.2;
         proposed_low = p.0;
         proposed_rising = p.1;
       }
@@ -132,8 +114,8 @@ module _ (steps : List Step) (said proposed : List ℕ) where
       both_passed (full ⨟ said_check said) (proposed_check proposed)
       (both_passed full (said_check said)
       (passed_if (leb 64 (length steps)) (refusal 21 64) (lt-leb 64 (length steps) free.room))
-      (said_passes said free.said_low free.said_rising free.sayable))
-      (proposed_passes proposed free.proposed_low free.proposed_rising)
+      (list_passes 22 bars_unsayable said free.said_low free.said_rising (none_unsayable said free.sayable)))
+      (list_passes 25 bars_none proposed free.proposed_low free.proposed_rising (λ i within. refl))
 
   pub free_exactly : (lists_check steps said proposed ≡ None) ↔ Free steps said proposed
   free_exactly = (passed_free, free_passes)

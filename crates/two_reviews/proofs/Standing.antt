@@ -1,7 +1,7 @@
 -- What is known of the steps that stand after some exchanges. Assumes nothing.
 --     Entered p          the lists p of a step passed their checks
 --     Sound rules ls     each step of the lists ls is stable over what it is given, and the lists passed their checks
-use Rattle.std.proofs.Common.{ℕ, ◌<◌, eqb, List, [], ◌∷◌, ◌++◌, take, Ok, Err, Result, sym, refl, subst, arith}
+use Rattle.std.proofs.Common.{ℕ, ◌<◌, eqb, List, [], ◌∷◌, ◌++◌, take, Ok, Err, Option, None, Some, IsSomeAnd, Result, sym, refl, subst, arith}
 use Rattle.std.specs.List.{AllByRecursion}
 use Rattle.std.proofs.lemmas.List.{map_push, take-map}
 use Rattle.std.proofs.ByRecursion.{All-push, All-take}
@@ -62,26 +62,32 @@ module _ (rules : List (Rule ℕ)) where
       }
 
   sound_judged : (ls : List Lists) (said proposed : List ℕ) (r : Result Accepted Told)
-      → Sound rules ls → Judged rules (steps_by ls) said proposed r → Sound rules (then ls (propose said proposed) (judged r))
+      → Sound rules ls → Judged rules (steps_by ls) said proposed r → Sound rules (then ls (propose said proposed) (Some (judged r)))
   sound_judged ls said proposed (Ok a) sound answer = sound_more ls said proposed a sound answer
   sound_judged ls said proposed (Err t) sound answer = sound
 
   -- a call that is answered as it should be
   sound_then : (ls : List Lists) (words : List ℕ) (ask : Ask) (reply : Reply) (after : List ℕ)
-      → Sound rules ls → Settles rules (steps_by ls) words ask reply after → Sound rules (then ls ask reply)
+      → Sound rules ls → Settles rules (steps_by ls) words ask reply after → Sound rules (then ls ask (Some reply))
   sound_then ls words (propose said proposed) reply after sound ((r, same, answer), kept) =
-      subst (λ x. Sound rules (then ls (propose said proposed) x)) (sym same) (sound_judged ls said proposed r sound answer)
+      subst (λ x. Sound rules (then ls (propose said proposed) (Some x))) (sym same) (sound_judged ls said proposed r sound answer)
   sound_then ls words (go_back n) reply after sound settles =
-      cond_both (passed reply) (take n ls) ls (Sound rules) (λ _. sound_taken n ls sound) (λ _. sound)
+      cond_both (passed (Some reply)) (take n ls) ls (Sound rules) (λ _. sound_taken n ls sound) (λ _. sound)
   sound_then ls words (look s m) reply after sound settles = sound
   sound_then ls words (list k) reply after sound settles = sound
   sound_then ls words (show s) reply after sound settles = sound
+
+  -- an exchange that has its reply
+  sound_heard : (ls : List Lists) (words : List ℕ) (ask : Ask) (reply : Option Reply) (after : List ℕ)
+      → Sound rules ls → IsSomeAnd reply (λ r. Settles rules (steps_by ls) words ask r after) → Sound rules (then ls ask reply)
+  sound_heard ls words ask None after sound answered = absurd answered
+  sound_heard ls words ask (Some reply) after sound answered = sound_then ls words ask reply after sound answered
 
   sound_after : (ls : List Lists) (xs : List Exchange) → Sound rules ls → Heard rules ls xs → Sound rules (stands ls xs)
   unfolding stands Heard
   sound_after ls [] sound heard = sound
   sound_after ls (x ∷ xs) sound heard =
-      sound_after (then ls x.ask x.reply) xs (sound_then ls x.words x.ask x.reply x.after sound heard.0) heard.1
+      sound_after (then ls x.ask x.reply) xs (sound_heard ls x.words x.ask x.reply x.after sound heard.0) heard.1
 
   pub sound_stands : (xs : List Exchange) → Heard rules [] xs → Sound rules (stands [] xs)
   sound_stands xs heard = sound_after [] xs sound_none heard

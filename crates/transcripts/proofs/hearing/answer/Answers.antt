@@ -1,4 +1,4 @@
-use Rattle.std.proofs.Common.{sym, ap, ◌∙◌, ap₂, rules}
+use Rattle.std.proofs.Common.{Some, sym, ap, ◌∙◌, ap₂}
 use Rattle.refusals.specs.Telling.{answered}
 use Rattle.review.specs.Faults.{propose_told, back_told}
 use Rattle.steps.specs.Standing.{standing}
@@ -8,25 +8,15 @@ use Rattle.transcripts.specs.Views.{ask_of}
 use Rattle.transcripts.proofs.Standing.{after_proposal, after_return}
 use Rattle.transcripts.proofs.hearing.answer.Goals as goal
 
-pub returns-in-Propose : goal.returns-in-Propose
-returns-in-Propose g c =
-    record {
-      settled = search rules;
-      stands = λ ls same.
-          after_proposal ls (standing c.args.review.now.steps) (standing c.propose.new.self.steps)
-          c.deref.result.now c.deref-in-Propose.result.now (answered propose_told c.propose.result) c.propose.ensures.stands same
-          ∙ ap (λ ask. steps_by (then ls ask (judged (answered propose_told c.propose.result))))
-          (ap₂ propose c.deref.ensures.value c.deref-in-Propose.ensures.value ∙ sym (ap ask_of c.in-Propose.is));
-      book = search rules;
-    }
+pub returns-in-Propose-clause-stands : goal.returns-in-Propose-clause-stands
+returns-in-Propose-clause-stands g c = λ ls same.
+    after_proposal ls (standing c.args.review.now.steps) (standing c.propose.new.self.steps)
+    c.deref.result.now c.deref-in-Propose.result.now (answered propose_told c.propose.result) c.propose.ensures.stands same
+    ∙ ap (λ ask. steps_by (then ls ask (Some (judged (answered propose_told c.propose.result)))))
+    (ap₂ propose c.deref.ensures.value c.deref-in-Propose.ensures.value ∙ sym (ap ask_of c.in-Propose.is))
 
-pub returns-in-GoBack : goal.returns-in-GoBack
-returns-in-GoBack g c =
-    record {
-      settled = search rules;
-      stands = λ ls same.
-          after_return ls (standing c.args.review.now.steps) (standing c.go_back.new.self.steps)
-          c.in-GoBack.n (answered back_told c.go_back.result) c.go_back.ensures.answer c.go_back.ensures.stands same
-          ∙ ap (λ ask. steps_by (then ls ask (went_back (answered back_told c.go_back.result)))) (sym (ap ask_of c.in-GoBack.is));
-      book = search rules;
-    }
+pub returns-in-GoBack-clause-stands : goal.returns-in-GoBack-clause-stands
+returns-in-GoBack-clause-stands g c = λ ls same.
+    after_return ls (standing c.args.review.now.steps) (standing c.go_back.new.self.steps)
+    c.in-GoBack.n (answered back_told c.go_back.result) c.go_back.ensures.answer c.go_back.ensures.stands same
+    ∙ ap (λ ask. steps_by (then ls ask (Some (went_back (answered back_told c.go_back.result))))) (sym (ap ask_of c.in-GoBack.is))
