@@ -7,16 +7,13 @@ mod permission;
 use books::Book;
 use marks::Instance;
 use permission::Permission;
-use review::Review;
+use review::{Accepted, Review};
 use std::io;
 
 // Prints step and mark of each finding of the standing steps.
 fn print_findings<B: Book>(rt: &HostRuntime, review: &Review<B>) -> io::Result<()> {
-    for k in 0..usize::MAX {
-        match review.list(k) {
-            Ok((step, mark)) => println!(rt; "step {step}: mark {mark} is a finding")?,
-            Err(_) => break,
-        }
+    for (step, mark) in (0..).map_while(|k| review.list(k).ok()) {
+        println!(rt; "step {step}: mark {mark} is a finding")?;
     }
     Ok(())
 }
@@ -29,10 +26,7 @@ fn print_step<B: Book>(
     proposed: &[u16],
 ) -> io::Result<()> {
     match review.propose(said, proposed) {
-        Ok(accepted) => {
-            let step = accepted.step;
-            println!(rt; "step {step} passes")
-        }
+        Ok(Accepted { step, .. }) => println!(rt; "step {step} passes"),
         Err(_) => println!(rt; "a step is refused"),
     }
 }
@@ -48,8 +42,7 @@ fn review_reading(rt: &HostRuntime, record: Instance, read: Instance) -> io::Res
 }
 
 fn main(rt: HostRuntime) -> io::Result<()> {
-    match (Instance::new(0), Instance::new(1)) {
-        (Some(record), Some(read)) => review_reading(&rt, record, read),
-        _ => Ok(()),
-    }
+    let record = Instance::new(0).unwrap();
+    let read = Instance::new(1).unwrap();
+    review_reading(&rt, record, read)
 }
