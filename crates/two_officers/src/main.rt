@@ -4,47 +4,32 @@
 #![tactic(auto)]
 
 mod clicks;
+mod words;
 
 use bookfile::FileBook;
 use clicks::{ACCESS, Click, DETOURS, OBJECTION, STRAIGHT, exchanges};
 use std::{fs, io};
-use steps::Comparison;
 use two_reviews::compare_reviews;
+use words::Words;
 
-// A dated mark in words, or that there is none.
-fn print_lowest(rt: &HostRuntime, who: &str, lowest: Option<(u8, u16)>) -> io::Result<()> {
-    match lowest {
-        Some((step, mark)) => println!(rt; "  only the {who} has mark {mark} at step {step}"),
-        None => println!(rt; "  the {who} has no mark of its own"),
-    }
+// An officer's book and clicks.
+#[derive(Clone, Copy)]
+struct Officer<'a> {
+    book: &'a FileBook<'a>,
+    clicks: &'a [Click<'a>],
 }
 
-// How the two reviews stand to each other.
-fn print_comparison(rt: &HostRuntime, name: &str, told: Comparison) -> io::Result<()> {
-    match told {
-        Comparison::OtherScenario => println!(rt; "{name}: another scenario"),
-        Comparison::SameTrace => println!(rt; "{name}: the same trace"),
-        Comparison::Different { first, second } => {
-            println!(rt; "{name}: different traces")?;
-            print_lowest(rt, "first", first)?;
-            print_lowest(rt, "second", second)
-        }
-    }
-}
-
-// Has two officers click their ways over the two books, and prints how they stand to each other.
-fn compare(
-    rt: &HostRuntime,
-    name: &str,
-    first: &FileBook<'_>,
-    second: &FileBook<'_>,
-    mine: &[Click<'_>],
-    theirs: &[Click<'_>],
-) -> io::Result<()> {
-    let mut mine = exchanges(rt.alloc(), mine)?;
-    let mut theirs = exchanges(rt.alloc(), theirs)?;
-    let told = compare_reviews(first, second, mine.as_mut_slice(), theirs.as_mut_slice());
-    print_comparison(rt, name, told)
+// Has two officers click their ways over their books, and prints how they stand to each other.
+fn compare(rt: &HostRuntime, name: &str, one: Officer<'_>, other: Officer<'_>) -> io::Result<()> {
+    let mut mine = exchanges(rt.alloc(), one.clicks)?;
+    let mut theirs = exchanges(rt.alloc(), other.clicks)?;
+    let told = Words(compare_reviews(
+        one.book,
+        other.book,
+        mine.as_mut_slice(),
+        theirs.as_mut_slice(),
+    ));
+    println!(rt; "{name}: {told}")
 }
 
 // One book with a default and its exception.
@@ -54,10 +39,14 @@ fn over_an_exception(rt: &HostRuntime) -> io::Result<()> {
     compare(
         rt,
         "a default and its exception",
-        &book,
-        &book,
-        &ACCESS,
-        &OBJECTION,
+        Officer {
+            book: &book,
+            clicks: &ACCESS,
+        },
+        Officer {
+            book: &book,
+            clicks: &OBJECTION,
+        },
     )
 }
 
@@ -67,14 +56,24 @@ fn over_levels(rt: &HostRuntime) -> io::Result<()> {
     let late = FileBook::new(bytes.as_slice());
     let more = fs::read(rt, "reordered")?;
     let reordered = FileBook::new(more.as_slice());
-    compare(rt, "rules with levels", &late, &late, &STRAIGHT, &DETOURS)?;
+    let straight = Officer {
+        book: &late,
+        clicks: &STRAIGHT,
+    };
+    let detours = Officer {
+        book: &late,
+        clicks: &DETOURS,
+    };
+    let straight_reordered = Officer {
+        book: &reordered,
+        clicks: &STRAIGHT,
+    };
+    compare(rt, "rules with levels", straight, detours)?;
     compare(
         rt,
         "the same rules in another order",
-        &late,
-        &reordered,
-        &DETOURS,
-        &STRAIGHT,
+        detours,
+        straight_reordered,
     )
 }
 
