@@ -1,38 +1,56 @@
 -- What a series answers to the questions of a book. Assumes nothing.
-use Rattle.std.proofs.Common.{◌≡◌, ℕ, suc, ◌+◌, ◌<◌, ◌≤◌, true, not, ◌||◌, eqb, List, length, is_some, Some, None, Option, sym, ap, ◌∙◌, add-one, arith, MatchOption}
+use Rattle.std.proofs.Common.{◌≡◌, ℕ, suc, ◌+◌, ◌<◌, ◌≤◌, true, cond, not, ◌&&◌, ◌||◌, eqb, ltb, leb, List, length, is_some, Some, None, Option, sym, ap, ◌∙◌, ⊎_elim, arith}
 use Rattle.std.specs.List.{slice_get}
-use Rattle.marks.specs.declared.mark.Mark.{Mark}
-use Rattle.books.specs.Asked.{head_of, counts_of, body_of, numbered}
-use Rattle.books.proofs.Counted.{nth_counted, nth_counted_past, made_mark, head_is, counts_are, body_is}
+use Rattle.std.proofs.lemmas.Bool.{cases_lt, and_left, and_right, and_from, lt-ltb, le-ltb, lt-leb, le-leb}
+use Rattle.books.specs.Asked.{head_of, counts_of, body_of}
+use Rattle.books.proofs.Counted.{nth_counted, nth_counted_past, head_past, counts_past, rule_past, head_is, counts_are, body_is}
 use Rattle.rows.specs.Rows.{required_count, barred_count, body_count}
-use Rattle.series.specs.Moved.{moved, moved_marks, series_rule, series_rules}
+use Rattle.series.specs.declared.movement.Movement.{Movement}
+use Rattle.series.specs.Moved.{moved, mark_of, moved_marks, series_rule, series_rules}
 use Rattle.series.specs.Checks.{series_check}
 use Rattle.series.specs.Sound.{low_moved, passes_at, series_body, length_required, length_barred}
 
-module _ (row : List ℕ) (width count moving n : ℕ) (below : n < count) where
-  -- the k-th body mark
-  body_moved : (k : ℕ) → body_of (series_rules row width count moving) n k ≡ slice_get (moved_marks row width moving n) k
-  body_moved k = body_is (series_rule row width moving) count n k below ∙ ap (λ ms. slice_get ms k) (series_body row width moving n)
+module _ (row : List ℕ) (m : Movement) (n : ℕ) where
+  -- no rule n, or no mark at p
+  pub none_past : (p : ℕ) → m.count ≤ n → None ≡ mark_of row m n p
+  none_past p past = sym (ap (λ b. cond b (Some (moved row m n p)) None) (and_left (ltb n m.count) (leb p (body_count row)) (le-ltb n m.count past)))
 
-  pub counts_told : (x y : ℕ) → x ≡ required_count row → y ≡ barred_count row → Some (x, y) ≡ counts_of (series_rules row width count moving) n
-  counts_told x y e f =
-      ap (λ z. Some (z, y)) (e ∙ sym (length_required row width moving n))
-      ∙ ap (λ z. Some (length (series_rule row width moving n).required, z)) (f ∙ sym (length_barred row width moving n))
-      ∙ sym (counts_are (series_rule row width moving) count n below)
+  pub none_unused : (p : ℕ) → body_count row < p → None ≡ mark_of row m n p
+  none_unused p high = sym (ap (λ b. cond b (Some (moved row m n p)) None) (and_right (ltb n m.count) (leb p (body_count row)) (lt-leb p (body_count row) high)))
 
-  pub body_past : (k : ℕ) → body_count row ≤ k → None ≡ body_of (series_rules row width count moving) n k
-  body_past k past = sym (body_moved k ∙ nth_counted_past (λ j. moved row width moving n (suc j)) (body_count row) k past)
+  module _ (below : n < m.count) where
+    pub mark_is : (p : ℕ) → p ≤ body_count row → Some (moved row m n p) ≡ mark_of row m n p
+    mark_is p used = sym (ap (λ b. cond b (Some (moved row m n p)) None) (and_from (ltb n m.count) (leb p (body_count row)) (lt-ltb n m.count below) (le-leb p (body_count row) used)))
 
-  module _ (checked : (eqb count 0 || not (is_some (series_check row width count moving))) ≡ true) where
-    pub low_at : (p : ℕ) → p ≤ body_count row → moved row width moving n p ≤ 1023
-    low_at = low_moved row width count moving (passes_at row width count moving checked n below) n below
+    -- the k-th body mark
+    body_moved : (k : ℕ) → body_of (series_rules row m) n k ≡ slice_get (moved_marks row m n) k
+    body_moved k = body_is (series_rule row m) m.count n k below ∙ ap (λ ms. slice_get ms k) (series_body row m n)
 
-    -- a mark that was made from what is told at a position
-    pub head_told : (r : Option Mark) (m : ℕ) → m ≡ moved row width moving n 0 → MatchOption r (1024 ≤ m) (λ x. x.number ≡ m) → numbered r ≡ head_of (series_rules row width count moving) n
-    head_told r m e made = made_mark r m made (omega (arith, low_at 0 (omega arith))) ∙ ap Some e ∙ sym (head_is (series_rule row width moving) count n below)
+    pub counts_told : (x y : ℕ) → x ≡ required_count row → y ≡ barred_count row → Some (x, y) ≡ counts_of (series_rules row m) n
+    counts_told x y e f =
+        ap (λ z. Some (z, y)) (e ∙ sym (length_required row m n))
+        ∙ ap (λ z. Some (length (series_rule row m n).required, z)) (f ∙ sym (length_barred row m n))
+        ∙ sym (counts_are (series_rule row m) m.count n below)
 
-    pub body_told : (k : ℕ) (r : Option Mark) (m : ℕ) → k < body_count row → m ≡ moved row width moving n (k + 1) → MatchOption r (1024 ≤ m) (λ x. x.number ≡ m) → numbered r ≡ body_of (series_rules row width count moving) n k
-    body_told k r m used e made =
-        made_mark r m made (omega (arith, low_at (k + 1) (omega arith)))
-        ∙ ap Some (e ∙ ap (moved row width moving n) (add-one k))
-        ∙ sym (body_moved k ∙ nth_counted (λ j. moved row width moving n (suc j)) (body_count row) k used)
+    module _ (checked : (eqb m.count 0 || not (is_some (series_check row m))) ≡ true) where
+      pub low_at : (p : ℕ) → p ≤ body_count row → moved row m n p ≤ 1023
+      low_at = low_moved row m (passes_at row m checked n below) n below
+
+  -- the answers of the book
+  pub head_told : mark_of row m n 0 ≡ head_of (series_rules row m) n
+  head_told =
+      ⊎_elim
+      (λ (below : n < m.count). sym (mark_is below 0 (omega arith)) ∙ sym (head_is (series_rule row m) m.count n below))
+      (λ past. sym (none_past 0 past) ∙ head_past (series_rule row m) m.count n past)
+      (cases_lt n m.count)
+
+  pub body_told : (k : ℕ) → mark_of row m n (suc k) ≡ body_of (series_rules row m) n k
+  body_told k =
+      ⊎_elim
+      (λ (below : n < m.count).
+      ⊎_elim
+      (λ used. sym (mark_is below (suc k) (omega arith)) ∙ sym (body_moved below k ∙ nth_counted (λ j. moved row m n (suc j)) (body_count row) k used))
+      (λ unused. sym (none_unused (suc k) (omega arith)) ∙ sym (body_moved below k ∙ nth_counted_past (λ j. moved row m n (suc j)) (body_count row) k unused))
+      (cases_lt k (body_count row)))
+      (λ past. sym (none_past (suc k) past) ∙ rule_past (series_rule row m) m.count n k past)
+      (cases_lt n m.count)

@@ -1,2 +1,3 @@
-pub mod Movement
+pub mod Moving
 pub mod Asked
+pub mod Made

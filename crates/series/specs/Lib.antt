@@ -1,4 +1,5 @@
 pub mod Moved
+pub mod Positions
 pub mod Checks
 pub mod Faults
 pub mod Made

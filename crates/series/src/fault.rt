@@ -6,7 +6,7 @@ ghost use Rattle.series.specs.declared.fault.SeriesFault.TheVariants.{Row};
 use refusals::{Fault, Item, Section, Told};
 use rows::RowFault;
 
-#[derive(Clone, Copy)]
+#[derive(Clone, Copy, PartialEq, Eq, Debug)]
 pub enum SeriesFault {
     // The row is not all there, or is no rule.
     Row(RowFault),

@@ -4,8 +4,10 @@
 mod check;
 mod fault;
 mod moved;
+mod movement;
 mod series;
 
 pub use check::check_series;
 pub use fault::SeriesFault;
+pub use movement::Movement;
 pub use series::Series;

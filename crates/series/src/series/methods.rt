@@ -1,71 +1,68 @@
 // The questions that a book answers, from the row of a series.
 ghost use Rattle.std.specs.Prelude.{◌≡◌};
-ghost use Rattle.refusals.specs.Checks.{count_where_passes};
-ghost use Rattle.series.specs.Checks.{series_check};
+ghost use Rattle.books.specs.Asked.{numbered};
 ghost use Rattle.series.specs.Made.{made_rules, rules_of};
+ghost use Rattle.series.specs.Moved.{mark_of};
+ghost use Rattle.series.specs.Positions.{place};
 ghost use Rattle.series.specs.Sound.{sound_series};
 
 use crate::check::check_series;
-use crate::moved::moved;
+use crate::moved::{MovingRow, Position};
+use crate::movement::Movement;
 use crate::series::Series;
 use books::Book;
 use marks::Mark;
-use rows::{body_count, byte_at};
-
-// The count; 0 where the check refuses.
-fn checked_count(row: &[u8], width: u8, count: u8, moving: u16) -> u8
-    ensures { result ≡ count_where_passes (series_check row.now width count moving) count }
-{
-    match check_series(row, width, count, moving) {
-        Ok(()) => count,
-        Err(_) => 0,
-    }
-}
+use rows::Row;
 
 impl<'a> Series<'a> {
     // The series, or one without rules where the check refuses it.
-    pub fn new(row: &'a [u8], width: u8, count: u8, moving: u16) -> Series<'a>
-        ensures { rules_of result ≡ made_rules row.now width count moving }
+    pub fn new(row: &'a [u8], movement: Movement) -> Series<'a>
+        ensures { rules_of result ≡ made_rules row.now movement }
     {
+        let count = check_series(row, movement).map_or(0, |()| movement.count);
         Series {
-            row,
-            width,
-            count: checked_count(row, width, count, moving),
-            moving,
+            marks: MovingRow {
+                row: Row::new(row),
+                movement: Movement { count, ..movement },
+            },
         }
+    }
+
+    // The mark of rule n at the position, if there is one.
+    fn mark(&self, n: usize, position: Position) -> Option<Mark>
+        ensures { numbered result ≡ mark_of self.now.marks.row.bytes.now self.now.marks.movement n (place position) }
+    {
+        let n = u8::try_from(n).ok()?;
+        if n >= self.marks.movement.count || !self.marks.has(position) {
+            return None;
+        }
+        let number = u16::try_from(self.marks.moved(n, position)).ok()?;
+        Mark::new(number)
     }
 }
 
 impl Book for Series<'_> {
     ghost rules = { rules_of };
 
-    ghost sound = { λ s. sound_series s.row.now s.width s.count s.moving s.checked };
+    ghost sound = { λ s. sound_series s.marks.row.bytes.now s.marks.movement s.checked };
 
     fn len(&self) -> usize {
-        self.count as usize
+        usize::from(self.marks.movement.count)
     }
 
     fn head(&self, n: usize) -> Option<Mark> {
-        if n < usize::from(self.count) {
-            Mark::new(moved(self.row, self.width, self.moving, n as u8, 0) as u16)
-        } else {
-            None
-        }
+        self.mark(n, Position::Head)
     }
 
     fn counts(&self, n: usize) -> Option<(u8, u8)> {
-        if n < usize::from(self.count) {
-            Some((byte_at(self.row, 2), byte_at(self.row, 3)))
+        if n < self.len() {
+            Some((self.marks.row.required(), self.marks.row.barred()))
         } else {
             None
         }
     }
 
     fn body(&self, n: usize, k: usize) -> Option<Mark> {
-        if n < usize::from(self.count) && k < body_count(self.row) {
-            Mark::new(moved(self.row, self.width, self.moving, n as u8, k + 1) as u16)
-        } else {
-            None
-        }
+        self.mark(n, Position::Body(k))
     }
 }
