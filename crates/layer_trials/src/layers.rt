@@ -1,106 +1,158 @@
 // Joint books and suspensions, and both over each other.
-use crate::movement::{NONE, ROW, head_of};
+use crate::answers::{head_of, told};
+use crate::movement::ROW;
 use books::Book;
 use joint::{Joint, check_joint};
-use refusals::{Fault, Told};
+use refusals::Told;
 use sameness::same_rules;
-use series::Series;
+use series::{Movement, Series};
 use std::process::Abort;
 use suspension::{Suspension, check_suspension};
 
-// What is told of two books that are joined; 0 where they pass.
-fn told_of_joint<F: Book, S: Book>(first: &F, second: &S) -> Told {
-    match check_joint(first, second) {
-        Ok(()) => Told::call(0, 0),
-        Err(fault) => fault.tell(),
-    }
+// So many rules from the row: from each to the next the head goes up an instance.
+fn heads(row: &[u8], count: u8) -> Series<'_> {
+    let movement = Movement {
+        width: 1,
+        count,
+        moving: 1,
+    };
+    Series::new(row, movement)
 }
 
 // A book of 512 rules twice, and one rule more.
 fn check_limit<B: Book, S: Book>(rt: &impl Abort, half: &B, one: &S) {
-    assert_eq!(rt; told_of_joint(half, half).number, 0);
+    assert_eq!(rt; told(check_joint(half, half)), None);
     let full = Joint::new(half, half);
     assert_eq!(rt; full.len(), 1024);
-    assert_eq!(rt; head_of(&full, 126), 1017);
-    assert_eq!(rt; head_of(&full, 127), 9);
-    assert_eq!(rt; head_of(&full, 1022), 1017);
-    assert_eq!(rt; head_of(&full, 1024), NONE);
-    let t = told_of_joint(&full, one);
-    assert_eq!(rt; t.number, 12);
-    assert_eq!(rt; t.section, 0);
-    assert_eq!(rt; t.spot, 0);
+    assert_eq!(rt; head_of(&full, 126), Some(1017));
+    assert_eq!(rt; head_of(&full, 127), Some(9));
+    assert_eq!(rt; head_of(&full, 1022), Some(1017));
+    assert_eq!(rt; head_of(&full, 1024), None);
+    assert_eq!(rt; told(check_joint(&full, one)), Some(Told::call(12, 0)));
     let first_alone = Joint::new(one, &full);
     assert_eq!(rt; first_alone.len(), 1);
-    assert_eq!(rt; head_of(&first_alone, 1), NONE);
+    assert_eq!(rt; head_of(&first_alone, 1), None);
 }
 
 #[test]
 fn joint_limit(rt: HostRuntime) {
-    let one = Series::new(&ROW, 1, 1, 0);
-    let eighth = Joint::new(Series::new(&ROW, 1, 127, 1), one);
+    let still = Movement {
+        width: 1,
+        count: 1,
+        moving: 0,
+    };
+    let one = Series::new(&ROW, still);
+    let eighth = Joint::new(heads(&ROW, 127), one);
     let quarter = Joint::new(&eighth, &eighth);
     check_limit(&rt, &Joint::new(&quarter, &quarter), &one);
 }
 
-// Numbers that are set aside of a series of 20 rules, the number and the spot of what is told, and how many rules are
-// left, with the heads of the first and the last.
-struct Aside<'a>(&'a [u16], u8, usize, usize, u16, u16);
+// Numbers that are set aside of a series of 20 rules; the number and the spot of what is told, where they are refused,
+// how many rules are left, and the heads of the first and the last.
+struct Aside<'a> {
+    numbers: &'a [u16],
+    told: Option<(u8, usize)>,
+    rules: usize,
+    first: u16,
+    last: u16,
+}
 
 const ASIDE: [Aside<'static>; 10] = [
-    Aside(&[], 0, 0, 20, 9, 161),
-    Aside(&[0], 0, 0, 19, 17, 161),
-    Aside(&[19], 0, 0, 19, 9, 153),
-    Aside(&[0, 1, 19], 0, 0, 17, 25, 153),
-    Aside(
-        &[0, 1, 2, 3, 4, 5, 6, 7, 8, 9, 10, 11, 12, 13, 14, 15],
-        0,
-        0,
-        4,
-        137,
-        161,
-    ),
-    Aside(
-        &[0, 1, 2, 3, 4, 5, 6, 7, 8, 9, 10, 11, 12, 13, 14, 15, 16],
-        13,
-        17,
-        20,
-        9,
-        161,
-    ),
-    Aside(&[20], 14, 0, 20, 9, 161),
-    Aside(&[5, 5], 14, 1, 20, 9, 161),
-    Aside(&[5, 4], 14, 1, 20, 9, 161),
-    Aside(&[5, 65535, 4], 14, 1, 20, 9, 161),
+    Aside {
+        numbers: &[],
+        told: None,
+        rules: 20,
+        first: 9,
+        last: 161,
+    },
+    Aside {
+        numbers: &[0],
+        told: None,
+        rules: 19,
+        first: 17,
+        last: 161,
+    },
+    Aside {
+        numbers: &[19],
+        told: None,
+        rules: 19,
+        first: 9,
+        last: 153,
+    },
+    Aside {
+        numbers: &[0, 1, 19],
+        told: None,
+        rules: 17,
+        first: 25,
+        last: 153,
+    },
+    Aside {
+        numbers: &[0, 1, 2, 3, 4, 5, 6, 7, 8, 9, 10, 11, 12, 13, 14, 15],
+        told: None,
+        rules: 4,
+        first: 137,
+        last: 161,
+    },
+    Aside {
+        numbers: &[0, 1, 2, 3, 4, 5, 6, 7, 8, 9, 10, 11, 12, 13, 14, 15, 16],
+        told: Some((13, 17)),
+        rules: 20,
+        first: 9,
+        last: 161,
+    },
+    Aside {
+        numbers: &[20],
+        told: Some((14, 0)),
+        rules: 20,
+        first: 9,
+        last: 161,
+    },
+    Aside {
+        numbers: &[5, 5],
+        told: Some((14, 1)),
+        rules: 20,
+        first: 9,
+        last: 161,
+    },
+    Aside {
+        numbers: &[5, 4],
+        told: Some((14, 1)),
+        rules: 20,
+        first: 9,
+        last: 161,
+    },
+    Aside {
+        numbers: &[5, 65535, 4],
+        told: Some((14, 1)),
+        rules: 20,
+        first: 9,
+        last: 161,
+    },
 ];
 
 #[test]
 fn set_aside(rt: HostRuntime) {
-    let series = Series::new(&ROW, 1, 20, 1);
-    for row in &ASIDE {
-        let Aside(numbers, number, spot, rules, first, last) = row;
-        let told = match check_suspension(&series, numbers) {
-            Ok(()) => Told::call(0, 0),
-            Err(fault) => fault.tell(),
-        };
-        assert_eq!(rt; told.number, *number);
-        assert_eq!(rt; told.spot, *spot);
-        let left = Suspension::new(&series, numbers);
+    let series = heads(&ROW, 20);
+    for aside in &ASIDE {
+        let expected = aside.told.map(|(number, spot)| Told::call(number, spot));
+        assert_eq!(rt; told(check_suspension(&series, aside.numbers)), expected);
+        let left = Suspension::new(&series, aside.numbers);
         let len = left.len();
-        assert_eq!(rt; len, *rules);
-        assert_eq!(rt; head_of(&left, 0), *first);
+        assert_eq!(rt; len, aside.rules);
+        assert_eq!(rt; head_of(&left, 0), Some(aside.first));
         assert!(rt; len > 0);
-        assert_eq!(rt; head_of(&left, len - 1), *last);
-        assert_eq!(rt; head_of(&left, len), NONE);
-        assert_eq!(rt; head_of(&left, usize::MAX), NONE);
+        assert_eq!(rt; head_of(&left, len - 1), Some(aside.last));
+        assert_eq!(rt; head_of(&left, len), None);
+        assert_eq!(rt; head_of(&left, usize::MAX), None);
     }
 }
 
 // A suspension of a joint of a suspension and a series: the heads that are left.
-const LEFT: [u16; 6] = [9, 33, 9, 17, 25, NONE];
+const LEFT: [Option<u16>; 6] = [Some(9), Some(33), Some(9), Some(17), Some(25), None];
 
 #[test]
 fn three_deep(rt: HostRuntime) {
-    let series = Series::new(&ROW, 1, 4, 1);
+    let series = heads(&ROW, 4);
     let inner = Suspension::new(&series, &[1, 2]);
     let joint = Joint::new(inner, &series);
     let outer = Suspension::new(&joint, &[5]);
@@ -124,12 +176,12 @@ const UNLIKE: [u8; 32] =
 
 #[test]
 fn equal_rules(rt: HostRuntime) {
-    let short = Series::new(&ROW, 1, 2, 1);
-    let long = Series::new(&ROW, 1, 4, 1);
+    let short = heads(&ROW, 2);
+    let long = heads(&ROW, 4);
     assert!(rt; in_either_order(&short, &long));
     assert!(rt; same_rules(&Joint::new(short, long), &long));
     assert!(rt; !same_rules(&short, &long));
     assert!(rt; !same_rules(&long, &short));
-    assert!(rt; same_rules(&Series::new(&LIKE, 1, 2, 1), &short));
-    assert!(rt; !same_rules(&Series::new(&UNLIKE, 1, 2, 1), &short));
+    assert!(rt; same_rules(&heads(&LIKE, 2), &short));
+    assert!(rt; !same_rules(&heads(&UNLIKE, 2), &short));
 }

@@ -1,9 +1,9 @@
 -- What a series answers to the questions of a book. Assumes nothing.
-use Rattle.std.proofs.Common.{◌≡◌, ℕ, suc, ◌+◌, ◌<◌, ◌≤◌, true, cond, not, ◌&&◌, ◌||◌, eqb, ltb, leb, List, length, is_some, Some, None, Option, sym, ap, ◌∙◌, ⊎_elim, arith}
+use Rattle.std.proofs.Common.{◌≡◌, ℕ, suc, ◌<◌, ◌≤◌, true, cond, not, ◌||◌, eqb, ltb, leb, List, length, is_some, Some, None, sym, ap, ◌∙◌, ⊎_elim, arith}
 use Rattle.std.specs.List.{slice_get}
 use Rattle.std.proofs.lemmas.Bool.{cases_lt, and_left, and_right, and_from, lt-ltb, le-ltb, lt-leb, le-leb}
 use Rattle.books.specs.Asked.{head_of, counts_of, body_of}
-use Rattle.books.proofs.Counted.{nth_counted, nth_counted_past, head_past, counts_past, rule_past, head_is, counts_are, body_is}
+use Rattle.books.proofs.Counted.{nth_counted, nth_counted_past, head_past, rule_past, head_is, counts_are, body_is}
 use Rattle.rows.specs.Rows.{required_count, barred_count, body_count}
 use Rattle.series.specs.declared.movement.Movement.{Movement}
 use Rattle.series.specs.Moved.{moved, mark_of, moved_marks, series_rule, series_rules}

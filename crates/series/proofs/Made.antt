@@ -1,10 +1,9 @@
 -- The series that is made of a row, whether it passes the check or not: its count is so many where it passes, and 0
 -- where the check refuses. Assumes nothing.
-use Rattle.std.proofs.Common.{◌≡◌, ℕ, true, not, ◌||◌, eqb, List, is_some, Some, None, Option, sym, refl, ap, ◌∙◌}
+use Rattle.std.proofs.Common.{◌≡◌, ℕ, true, not, ◌||◌, eqb, List, is_some, Some, None, Option, refl, ap, ◌∙◌}
 use Rattle.std.proofs.lemmas.Bool.{or_left, or_right, eq-eqb}
 use Rattle.refusals.specs.declared.Told.{Told}
 use Rattle.refusals.specs.Checks.{where_passes, count_where_passes}
-use Rattle.norms.specs.Programs.{Rule}
 use Rattle.series.specs.declared.movement.Movement.{Movement}
 use Rattle.series.specs.Moved.{series_rules}
 use Rattle.series.specs.Checks.{series_check}

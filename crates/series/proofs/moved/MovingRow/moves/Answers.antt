@@ -1,4 +1,4 @@
-use Rattle.std.proofs.Common.{suc, ◌+◌, false, eqb, bit_and, sym, ap, ◌∙◌, add-one, div-one, arith}
+use Rattle.std.proofs.Common.{suc, ◌+◌, eqb, bit_and, sym, ap, ◌∙◌, add-one, div-one, arith}
 use Rattle.std.proofs.lemmas.Bool.{le-ltb}
 use Rattle.marks.specs.Words.{bit}
 use Rattle.marks.proofs.Bits.{bit_read}

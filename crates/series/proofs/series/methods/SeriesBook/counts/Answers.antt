@@ -1,4 +1,4 @@
-use Rattle.std.proofs.Common.{length, ◌<◌, ◌≤◌, arith}
+use Rattle.std.proofs.Common.{rules, ◌<◌, ◌≤◌, arith}
 use Rattle.std.proofs.lemmas.List.FromFn.{length-map-range_with_len}
 use Rattle.books.proofs.Counted.{counts_past}
 use Rattle.series.specs.Moved.{series_rule}
@@ -10,7 +10,7 @@ returns-then-n-len c =
     let s = c.args.self.now.marks in
     let size = length-map-range_with_len (series_rule s.row.bytes.now s.movement) 0 s.movement.count in
     let below : c.args.n < s.movement.count = omega arith in
-    counts_told s.row.bytes.now s.movement c.args.n below _ _ c.required.ensures c.barred.ensures
+    counts_told s.row.bytes.now s.movement c.args.n below _ _ (search rules) (search rules)
 
 pub returns-else-n-len : goal.returns-else-n-len
 returns-else-n-len c =
