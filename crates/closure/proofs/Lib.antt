@@ -2,3 +2,4 @@ pub mod Applying
 pub mod Adding
 pub mod Counting
 pub mod Closing
+pub mod Ranges

@@ -1,7 +1,0 @@
-use Rattle.marks.specs.Words.{members}
-use Rattle.closure.specs.Rounds.{Place, Below, Adds}
-use Rattle.closure.proofs.add_heads.Given as goal
-
-abbrev pub invariant-loop-n : goal.invariant-loop-n
-invariant-loop-n g l =
-    Adds (Below l.n (Place (g.B.Book.rules l.book))) (members l.proposed) (members l.from) (members l.initial.next) (members l.next)
