@@ -1,26 +1,17 @@
 -- The marks of a part of a body, by its places. Assumes nothing.
-use Rattle.std.proofs.Common.{◌≡◌, ℕ, zero, suc, ◌+◌, ◌-◌, ◌<◌, ◌≤◌, List, [], ◌∷◌, take, drop, eqb, Bool, Option, Some, None, MatchOption, IsTrue, Decides, sym, refl, ap, subst, ◌∙◌, ⊎_elim, arith}
+use Rattle.std.proofs.Common.{◌≡◌, ℕ, zero, suc, ◌+◌, ◌-◌, ◌<◌, ◌≤◌, List, [], ◌∷◌, take, drop, Some, sym, refl, ap, ◌∙◌, arith}
 use Rattle.std.specs.List.{slice_get}
-use Rattle.std.proofs.iter.runs.Lists.{none-some, same_Some}
 use Rattle.std.proofs.lemmas.Grind.{common_steps}
 use Rattle.std.proofs.lemmas.Option.{gets}
-use Rattle.std.proofs.lemmas.Bool.{eqb-true, eq-eqb, or_left, or_right, or_cases, false≢true}
-use Rattle.marks.specs.declared.mark.Mark.{Mark}
-use Rattle.marks.specs.Sets.{Set, ◌∈◌, among}
-use Rattle.books.specs.Asked.{numbered}
+use Rattle.marks.specs.Sets.{◌∈◌, among}
+use Rattle.norms.proofs.Places.{In, all_nth, all_from_nth}
+use Rattle.norms.proofs.Equal.{all_among, among_all}
 
-among_at : (xs : List ℕ) (m : ℕ) → m ∈ among xs → (k : ℕ) × (slice_get xs k ≡ Some m)
-among_at [] m held = absurd (false≢true held)
-among_at (x ∷ xs) m held =
-    ⊎_elim
-    (λ same. (0, ap Some (sym (eqb-true m x same))))
-    (λ later. let found = among_at xs m later in (suc found.0, found.1))
-    (or_cases (eqb m x) (among xs m) held)
+among_at : (xs : List ℕ) (m : ℕ) → m ∈ among xs → In xs m
+among_at xs = all_among (In xs) xs (all_from_nth (In xs) xs (λ k x inside at. (k, at)))
 
 at_among : (xs : List ℕ) (m k : ℕ) → slice_get xs k ≡ Some m → m ∈ among xs
-at_among [] m k at = absurd (none-some m at)
-at_among (x ∷ xs) m zero at = or_left (eqb m x) (among xs m) (eq-eqb m x (sym (same_Some x m at)))
-at_among (x ∷ xs) m (suc k) at = or_right (eqb m x) (among xs m) (at_among xs m k at)
+at_among xs m k at = all_nth (λ x. x ∈ among xs) xs (among_all (λ x. x ∈ among xs) xs (λ x held. held)) k m at
 
 get_drop : (xs : List ℕ) (a k : ℕ) → slice_get (drop a xs) k ≡ slice_get xs (a + k)
 get_drop xs zero k = let same : k ≡ 0 + k = omega arith in ap (slice_get xs) same
@@ -52,15 +43,3 @@ in_part xs a b m (k, from, below, at) =
     let back : a + (k - a) ≡ k = omega arith in
     let inside : k - a < b - a = omega arith in
     at_among (part xs a b) m (k - a) (get_take (drop a xs) (b - a) (k - a) inside ∙ get_drop xs a (k - a) ∙ ap (slice_get xs) back ∙ at)
-
--- what is answered of the mark that was told, if there is one
-pub asked : (o : Option Mark) (w : Option ℕ) (b : Bool) (S : Set ℕ) (Says : Mark → Type 0)
-    → numbered o ≡ w
-    → MatchOption o (IsTrue b) Says
-    → ((x : Mark) → Says x → b ≡ S x.number)
-    → Decides b ((m : ℕ) → w ≡ Some m → m ∈ S)
-asked None w b S Says is told each = ((λ _ m at. absurd (none-some m (is ∙ at))), λ _. told)
-asked (Some x) w b S Says is told each = (
-  (λ yes m at. subst (λ k. k ∈ S) (same_Some x.number m (is ∙ at)) (sym (each x told) ∙ yes)),
-  λ so. each x told ∙ so x.number (sym is),
-)

@@ -8,7 +8,7 @@ use Rattle.std.specs.Iterator.Adapters.{filter_map_source, filter_map_callee, fi
 use Rattle.std.specs.List.{slice_get, filter_map, cons_option, range_with_len, ContainsAt, FoldsTo, HoldsAt, AllWithin}
 use Rattle.std.proofs.iter.Yields.{nat_range_steps}
 use Rattle.std.proofs.lemmas.Bool.{false≢true}
-use Rattle.std.proofs.lemmas.Bool.Decides.{Decides-like}
+use Rattle.std.proofs.lemmas.Bool.Decides.{Decides-like, when_true}
 use Rattle.std.proofs.lemmas.Iterator.{YieldsList, YieldsList-from_range, cases_from_all, cases_from_any}
 use Rattle.std.proofs.lemmas.Iterator.Consumers.{YieldsList-at, YieldsList-from_filter_map}
 use Rattle.std.proofs.lemmas.Iterator.Search.{true_from_All, true_from_Any}
@@ -16,21 +16,9 @@ use Rattle.std.proofs.lemmas.List.{get_or_default}
 use Rattle.std.proofs.lemmas.List.FromFn.{length-range_with_len, get_or-range_with_len}
 
 module _ {X : Type 0} (P : X → Type 0) where
-  all_holds : (r : Bool) (xs : List X)
-      → MatchBool r (AllWithin P xs 0 (length xs)) ((k : ℕ) × (k < length xs) × HoldsAt (λ x. P x → ⊥) xs k)
-      → r ≡ true → (x : X) → ContainsAt xs x → P x
-  all_holds true xs each is = λ x (k, inside, at). subst P (at x) (each k x (omega arith) inside)
-  all_holds false xs some is = absurd (false≢true is)
-
   some_at : (xs : List X) (k : ℕ) → k < length xs → HoldsAt P xs k → (x : X) × ContainsAt xs x × P x
   some_at [] k inside at = absurd (omega arith)
   some_at (y ∷ xs) k inside at = (get_or (y ∷ xs) k y, (k, inside, λ d. get_or_default (y ∷ xs) k d y inside), at y)
-
-  any_holds : (r : Bool) (xs : List X)
-      → MatchBool r ((k : ℕ) × (k < length xs) × HoldsAt P xs k) (AllWithin (λ x. P x → ⊥) xs 0 (length xs))
-      → r ≡ true → (x : X) × ContainsAt xs x × P x
-  any_holds true xs found is = some_at xs found.0 found.1 found.2
-  any_holds false xs never is = absurd (false≢true is)
 
 module _ {S A B F : Type 0} {steps : S → Option A → S → Type 0} {v : A → B} {g : Mut F (A × Unit {0}) Bool} {s : S} {xs : List B} (P : B → Type 0) (u : S) (f : F) (r : Bool) where
   -- the answer of `all`
@@ -41,7 +29,7 @@ module _ {S A B F : Type 0} {steps : S → Option A → S → Type 0} {v : A →
   all_decides ran road each =
       let told : MatchBool r (AllWithin P xs 0 (length xs)) ((k : ℕ) × (k < length xs) × HoldsAt (λ x. P x → ⊥) xs k) =
       cases_from_all u f r P (λ x. P x → ⊥) ran road (λ x q k. let h = each x true q k in (h.0, h.1.0 refl)) (λ x q k p. false≢true ((each x false q k).1.1 p)) in (
-        all_holds P r xs told,
+        (λ is x (k, inside, at). subst P (at x) (when_true _ _ is told k x (omega arith) inside)),
         λ so. true_from_All P (λ x. P x → ⊥) r xs (λ x p never. never p) told (λ k d inside. so (get_or xs k d) (k, inside, λ e. get_or_default xs k e d inside)),
       )
 
@@ -53,7 +41,7 @@ module _ {S A B F : Type 0} {steps : S → Option A → S → Type 0} {v : A →
   any_decides ran road each =
       let told : MatchBool r ((k : ℕ) × (k < length xs) × HoldsAt P xs k) (AllWithin (λ x. P x → ⊥) xs 0 (length xs)) =
       cases_from_any u f r P (λ x. P x → ⊥) ran road (λ x q k. (each x true q k).1.0 refl) (λ x q k. let h = each x false q k in (h.0, λ p. false≢true (h.1.1 p))) in (
-        any_holds P r xs told,
+        (λ is. let found = when_true _ _ is told in some_at P xs found.0 found.1 found.2),
         λ (x, (k, inside, at), p). true_from_Any P (λ x. P x → ⊥) r xs (λ x p never. never p) told x (k, inside, at x) p,
       )
 
