@@ -1,8 +1,8 @@
 -- The marks of sixteen words. Assumes nothing.
-use Rattle.std.proofs.Common.{◌≡◌, ℕ, ◌-◌, ◌/◌, ◌%◌, ◌^◌, ◌<◌, ◌≤◌, Bool, true, false, not, ◌&&◌, ◌||◌, eqb, List, length, get_or, set, sym, refl, ap, ap₂, ◌∙◌, ⊎_elim, arith}
+use Rattle.std.proofs.Common.{◌≡◌, ℕ, ◌-◌, ◌/◌, ◌%◌, ◌^◌, ◌<◌, ◌≤◌, Bool, true, false, not, ◌&&◌, ◌||◌, eqb, List, length, get_or, replicate, set, sym, refl, ap, ap₂, ◌∙◌, ⊎_elim, arith}
 use mathlib.Core.Path.{fun_ext}
 use lib.Bits.{bit_and, bit_or}
-use Rattle.std.proofs.lemmas.List.{get_or-set_same, get_or-set_other, get_or_past}
+use Rattle.std.proofs.lemmas.List.{get_or-replicate, get_or-set_same, get_or-set_other, get_or_past}
 use Rattle.std.proofs.lemmas.Bool.{cases_eq, cases_lt, eq-eqb, ne_eqb, true≢false}
 use Rattle.marks.specs.Sets.{Set, nothing, either, beyond, ◌∈◌, ◌⊆◌}
 use Rattle.marks.specs.Words.{bit, held, with_mark}
@@ -17,9 +17,12 @@ pub held_within : (ws : List ℕ) → length ws ≡ 16 → (R : Set ℕ) → ((m
 held_within ws l R low m here =
     ⊎_elim (λ below. low m below here) (λ past. absurd (true≢false (sym here ∙ held_past ws l m past))) (cases_lt m 1024)
 
-pub held_none : (ws : List ℕ) → ((k : ℕ) → get_or ws k 0 ≡ 0) → held ws ≡ nothing
+pub held_empty : held (replicate 16 0) ≡ nothing
 unfolding held
-held_none ws zeros = fun_ext λ m. ap (λ w. bit w (m % 64)) (zeros (m / 64)) ∙ bit_zero (m % 64)
+held_empty = fun_ext λ m. ap (λ w. bit w (m % 64)) (zero_at (m / 64)) ∙ bit_zero (m % 64)
+  where
+    zero_at : (k : ℕ) → get_or (replicate {A = ℕ} 16 0) k 0 ≡ 0
+    zero_at k = ⊎_elim (get_or-replicate 16 k 0 0) (get_or_past (replicate 16 0) k 0) (cases_lt k 16)
 
 module _ (ws : List ℕ) (m : ℕ) (within : m / 64 < length ws) where
   -- the words once the bit of m is set

@@ -32,7 +32,7 @@ held_at ws i k lt =
     ap₂ (λ p q. bit (get_or ws p 0) q) place rest
 
 -- words are settled by their marks
-pub words_of_held : (ws : List ℕ) → length ws ≡ 16 → ((i : ℕ) → get_or ws i 0 < 2 ^ 64) → ws ≡ words_of (held ws)
+words_of_held : (ws : List ℕ) → length ws ≡ 16 → ((i : ℕ) → get_or ws i 0 < 2 ^ 64) → ws ≡ words_of (held ws)
 words_of_held ws long fits =
     ext_get_or 0 ws (words_of (held ws)) (long ∙ sym (length_words_of (held ws)))
     (λ i lt. sym
@@ -40,9 +40,13 @@ words_of_held ws long fits =
     ∙ number_same (λ k. held ws (64 * i + k)) (bit (get_or ws i 0)) 64 (held_at ws i)
     ∙ number_of_bits (get_or ws i 0) 64 (fits i)))
 
+-- the words of a set
+pub words_are : (s : MarkSet) → s.words ≡ words_of (members s)
+words_are s = words_of_held s.words s.sixteen s.fits
+
 -- sets of the same marks have the same words, so that a comparison of the words decides whether the marks are the same
-pub same_words : (a b : MarkSet) → members a ≡ members b → a.words ≡ b.words
-same_words a b same = words_of_held a.words a.sixteen a.fits ∙ ap words_of same ∙ sym (words_of_held b.words b.sixteen b.fits)
+same_words : (a b : MarkSet) → members a ≡ members b → a.words ≡ b.words
+same_words a b same = words_are a ∙ ap words_of same ∙ sym (words_are b)
 
 pub same_marks : (a b : MarkSet) (r : Bool) → r ≡ pointwise eqb a.words b.words → Decides r (members a ≡ members b)
 same_marks a b r e =

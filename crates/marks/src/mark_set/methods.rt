@@ -10,6 +10,7 @@ use crate::numbered::Numbered;
 use std::array;
 
 impl MarkSet {
+    #[tactic(auto, using(crate::proofs::Held::held_empty))]
     pub fn empty() -> MarkSet
         ensures { members result ≡ nothing }
     {
@@ -24,6 +25,7 @@ impl MarkSet {
     }
 
     // The sixteen words of the set.
+    #[tactic(auto, using(crate::proofs::Words::words_are))]
     pub fn words(&self) -> [u64; 16]
         ensures { result ≡ words_of (members self.now) }
     {
