@@ -1,6 +1,7 @@
 -- What a series answers to the questions of a book. Assumes nothing.
 use Rattle.std.proofs.Common.{◌≡◌, ℕ, suc, ◌<◌, ◌≤◌, true, cond, not, ◌||◌, eqb, ltb, leb, List, length, is_some, Some, None, sym, ap, ◌∙◌, ⊎_elim, arith}
 use Rattle.std.specs.List.{slice_get}
+use Rattle.std.proofs.lemmas.List.FromFn.{length-map-range_with_len}
 use Rattle.std.proofs.lemmas.Bool.{cases_lt, and_left, and_right, and_from, lt-ltb, le-ltb, lt-leb, le-leb}
 use Rattle.books.specs.Asked.{head_of, counts_of, body_of}
 use Rattle.books.proofs.Counted.{nth_counted, nth_counted_past, head_past, rule_past, head_is, counts_are, body_is}
@@ -9,6 +10,10 @@ use Rattle.series.specs.declared.movement.Movement.{Movement}
 use Rattle.series.specs.Moved.{moved, mark_of, moved_marks, series_rule, series_rules}
 use Rattle.series.specs.Checks.{series_check}
 use Rattle.series.specs.Sound.{low_moved, passes_at, series_body, length_required, length_barred}
+
+-- how many rules there are
+pub size : (row : List ℕ) (m : Movement) → length (series_rules row m) ≡ m.count
+size row m = length-map-range_with_len (series_rule row m) 0 m.count
 
 module _ (row : List ℕ) (m : Movement) (n : ℕ) where
   -- no rule n, or no mark at p

@@ -46,14 +46,17 @@ impl Book for Series<'_> {
 
     ghost sound = { λ s. sound_series s.marks.row.bytes.now s.marks.movement s.checked };
 
+    #[tactic(auto, using(crate::proofs::Asked::size))]
     fn len(&self) -> usize {
         usize::from(self.marks.movement.count)
     }
 
+    #[tactic(auto, using(crate::proofs::Asked::head_told))]
     fn head(&self, n: usize) -> Option<Mark> {
         self.mark(n, Position::Head)
     }
 
+    #[tactic(auto, using(crate::proofs::Asked::counts_told, crate::proofs::Asked::size, books::proofs::Counted::counts_past))]
     fn counts(&self, n: usize) -> Option<(u8, u8)> {
         if n < self.len() {
             Some((self.marks.row.required(), self.marks.row.barred()))
@@ -62,6 +65,7 @@ impl Book for Series<'_> {
         }
     }
 
+    #[tactic(auto, using(crate::proofs::Asked::body_told))]
     fn body(&self, n: usize, k: usize) -> Option<Mark> {
         self.mark(n, Position::Body(k))
     }

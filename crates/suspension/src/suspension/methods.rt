@@ -13,6 +13,7 @@ use marks::Mark;
 
 impl<'a, B: Book> Suspension<'a, B> {
     // The book without the rules of these numbers. Where the check refuses them, nothing is set aside.
+    #[tactic(auto, using(crate::proofs::Skipping::nothing_from))]
     pub fn new(book: B, numbers: &'a [u16]) -> Suspension<'a, B>
         ensures book { result.book ≡ book }
         ensures numbers { result.numbers.now ≡ where_passes (suspension_check (length (B.Book.rules book)) numbers.now) numbers.now }

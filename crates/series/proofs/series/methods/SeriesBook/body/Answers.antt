@@ -1,6 +1,0 @@
-use Rattle.std.proofs.Common.{◌∙◌}
-use Rattle.series.proofs.Asked.{body_told}
-use Rattle.series.proofs.series.methods.SeriesBook.body.Goals as goal
-
-pub returns : goal.returns
-returns c = let s = c.args.self.now.marks in c.mark.ensures ∙ body_told s.row.bytes.now s.movement c.args.n c.args.k
