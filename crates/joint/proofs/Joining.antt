@@ -3,7 +3,7 @@ use Rattle.std.proofs.Common.{◌≡◌, ℕ, ◌+◌, ◌-◌, ◌<◌, ◌≤�
 use Rattle.std.specs.List.{slice_get}
 use Rattle.std.specs.Result.{result_ok}
 use Rattle.std.proofs.iter.runs.Lists.{nth_left, nth_right}
-use Rattle.std.proofs.lemmas.List.{append-nil}
+use Rattle.std.proofs.lemmas.List.{append-nil, length-append}
 use Rattle.std.proofs.lemmas.Option.{slice_get_past}
 use Rattle.std.proofs.lemmas.Bool.{le-ltb, ltb-false}
 use Rattle.refusals.specs.declared.Told.{Told}
@@ -35,6 +35,9 @@ module _ (a b : List (Rule ℕ)) where
 
   pub rules_passed : joint_check a b ≡ None → joint_rules a b ≡ a ++ b
   rules_passed passed = ap (λ c. a ++ where_passes c b) passed
+
+  pub size : joint_check a b ≡ None → length (joint_rules a b) ≡ length a + length b
+  size passed = ap length (rules_passed passed) ∙ length-append a b
 
   pub rules_refused : (t : Told) → joint_check a b ≡ Some t → joint_rules a b ≡ a
   rules_refused t refused = ap (λ c. a ++ where_passes c b) refused ∙ append-nil a

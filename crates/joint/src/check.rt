@@ -9,6 +9,7 @@ use crate::fault::JointFault;
 use books::Book;
 
 // Whether the two books have at most 1,024 rules in all.
+#[tactic(auto, using(crate::proofs::Joining::few_passes, crate::proofs::Joining::either_order))]
 pub fn check_joint<F: Book, S: Book>(first: &F, second: &S) -> Result<(), JointFault>
     ensures answer { answered joint_told result ≡ passes tt (joint_check (F.Book.rules first.now) (S.Book.rules second.now)) }
     ensures law { EitherOrder (F.Book.rules first.now) (S.Book.rules second.now) }

@@ -21,6 +21,7 @@ impl<F: Book, S: Book> Joint<F, S> {
     }
 
     // Where rule n stands, if there is one.
+    #[tactic(auto, using(crate::proofs::Joining::place_first, crate::proofs::Joining::place_second, crate::proofs::Joining::place_past, crate::proofs::Joining::ok_passed, crate::proofs::Joining::ok_refused))]
     fn place(&self, n: usize) -> Option<Place>
         ensures { at_place (F.Book.rules self.now.first) (S.Book.rules self.now.second) result ≡ slice_get (joint_rules (F.Book.rules self.now.first) (S.Book.rules self.now.second)) n }
     {
@@ -38,6 +39,7 @@ impl<F: Book, S: Book> Book for Joint<F, S> {
 
     ghost sound = { λ j. sound_joint (F.Book.rules j.first) (S.Book.rules j.second) (F.Book.sound j.first) (S.Book.sound j.second) };
 
+    #[tactic(auto, using(crate::proofs::Joining::size))]
     fn len(&self) -> usize {
         match check_joint(&self.first, &self.second) {
             Ok(()) => self.first.len() + self.second.len(),
