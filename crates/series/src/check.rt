@@ -24,6 +24,7 @@ impl MovingRow<'_> {
     }
 
     // Whether the mark at the position may move: where the row has it, and it stays below 1,024 in all rules.
+    #[tactic(auto, using(crate::proofs::Moving::still, crate::proofs::Moving::unused, crate::proofs::Moving::ends_low, crate::proofs::Moving::ends_high))]
     fn check_position(&self, position: Position) -> Result<(), SeriesFault>
         ensures { answered series_told result ≡ passes tt (position_check self.now.row.bytes.now self.now.movement (place position)) }
     {

@@ -16,6 +16,7 @@ use rows::Row;
 
 impl<'a> Series<'a> {
     // The series, or one without rules where the check refuses it.
+    #[tactic(auto, using(crate::proofs::Made::made_checked, crate::proofs::Made::made_is))]
     pub fn new(row: &'a [u8], movement: Movement) -> Series<'a>
         ensures { rules_of result ≡ made_rules row.now movement }
     {
@@ -29,6 +30,7 @@ impl<'a> Series<'a> {
     }
 
     // The mark of rule n at the position, if there is one.
+    #[tactic(auto, using(crate::proofs::Asked::low_at, crate::proofs::Asked::mark_is, books::proofs::Counted::made_mark))]
     fn mark(&self, n: usize, position: Position) -> Option<Mark>
         ensures { numbered result ≡ mark_of self.now.marks.row.bytes.now self.now.marks.movement n (place position) }
     {
