@@ -89,7 +89,7 @@ impl<B: Book> BookRound<'_, B> {
 
     // Adds holds of the instance where its rule applies. The rule bars no mark.
     fn add_holds(&self, i: Instance, next: &mut MarkSet)
-        ensures { Adds (Only (holds_rule i.number)) (members self.now.proposed.now) (members self.now.from.now) (members next.old) (members next.new) }
+        ensures { (M : Set ℕ) → Adds (Only (holds_rule i.number)) M (members self.now.from.now) (members next.old) (members next.new) }
     {
         if self.from.has(i.mark(Attribute::Carried)) {
             next.insert(i.mark(Attribute::Holds));

@@ -11,7 +11,7 @@ pub loop-i-preserved : goal.loop-i-preserved
 loop-i-preserved g c =
     let first = ap (λ (s : _). s.next) c.into_iter-i-iterator.ensures.into_iter_gives ∙ c.all-i-items.ensures in
     let at = turn (λ (i : Instance). i.number) 128 first c.loop-i.yielded _ _ _ c.loop-i.yielded_by c.in-Some.i c.in-Some.is c.next.ensures.steps in
-    rw (length_push c.loop-i.yielded c.in-Some.i) (adds_frame_more _ _ _ _ _ _ _ _ at.1 c.loop-i.invariant c.add_holds.ensures c.add_breached.ensures)
+    rw (length_push c.loop-i.yielded c.in-Some.i) (adds_frame_more _ _ _ _ _ _ _ _ at.1 c.loop-i.invariant (c.add_holds.ensures _) c.add_breached.ensures)
 
 pub returns : goal.returns
 returns g c =
