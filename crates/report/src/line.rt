@@ -5,11 +5,11 @@ ghost use Rattle.refusals.specs.Telling.{answered};
 ghost use Rattle.bookfile.specs.Views.{name_list};
 ghost use Rattle.lines.specs.Faults.{short_told};
 ghost use Rattle.lines.specs.Parts.{is_breach, name_text};
-ghost use Rattle.lines.specs.Writing.{Writes};
+ghost use Rattle.lines.specs.Text.{written};
 ghost use Rattle.marks.specs.Numbers.{attribute, breached};
-ghost use Rattle.review.specs.Listings.{listing};
 ghost use Rattle.steps.specs.Standing.{standing};
-ghost use Rattle.report.specs.Report.{name_or_number, last_text, WritesFound};
+ghost use Rattle.report.specs.Faults.{line_told};
+ghost use Rattle.report.specs.Report.{name_or_number, line_answer, line_written, last_text, room_answer, if_room};
 
 use crate::fault::LineFault;
 use bookfile::Names;
@@ -45,8 +45,9 @@ pub fn report_line<B: Book>(
     names: &Names<'_>,
     buffer: &mut [u8],
 ) -> Result<usize, LineFault>
-    ensures written { WritesFound (name_list names.now) (listing (standing review.now.steps) k) buffer.old buffer.new result }
+    ensures answer { answered line_told result ≡ line_answer (standing review.now.steps) (name_list names.now) k (length buffer.old) }
     ensures within { IfOk result (λ n. n ≤ length buffer.old) }
+    ensures text { buffer.new ≡ line_written (standing review.now.steps) (name_list names.now) k buffer.old }
 {
     let (step, number) = review.list(k)?;
     let Some(mark) = Mark::new(number) else {
@@ -61,7 +62,9 @@ pub fn last_line<B: Book, F: Fault>(
     outcome: &Result<(), F>,
     buffer: &mut [u8],
 ) -> Result<usize, Short>
-    ensures { Writes short_told (last_text (standing review.now.steps) (result_err (answered F.Fault.told outcome.now))) buffer.old buffer.new result }
+    ensures answer { answered short_told result ≡ room_answer (last_text (standing review.now.steps) (result_err (answered F.Fault.told outcome.now))) (length buffer.old) }
+    ensures within { IfOk result (λ n. n ≤ length buffer.old) }
+    ensures text { buffer.new ≡ if_room (answered short_told result) (written (last_text (standing review.now.steps) (result_err (answered F.Fault.told outcome.now))) buffer.old) buffer.old }
 {
     match outcome {
         Ok(()) => write_steps(buffer, review.steps() as u8),
