@@ -64,6 +64,7 @@ impl Table {
         ensures value { result ≡ listed (findings (standing self.now)) k }
         ensures low { IfOk result (λ d. d.1 < 1024) }
     {
+        // Kept: a chain over all findings would have to own each step's list of them.
         let mut seen = 0;
         for (at, record) in self.records.iter().enumerate() {
             match record.finding(k - seen) {
