@@ -8,7 +8,7 @@ use casefile::CaseFault;
 use refusals::{Fault, Told};
 use review::ProposeFault;
 
-#[derive(Clone, Copy)]
+#[derive(Clone, Copy, PartialEq, Eq, Debug)]
 pub enum RunFault {
     Book(BookFault),
     Case(CaseFault),
