@@ -1,4 +1,4 @@
-use Rattle.std.proofs.Common.{◌≡◌, ℕ, List, Bor, ap, ◌∙◌}
+use Rattle.std.proofs.Common.{◌≡◌, ℕ, List, Bor, ap, ◌∙◌, rules}
 use Rattle.std.specs.List.{slice_get}
 use Rattle.std.specs.Option.{option_map}
 use Rattle.std.proofs.lemmas.Iterator.Consumers.{YieldsList-from_first, nth_from_yields_List}
@@ -11,6 +11,6 @@ pub returns : goal.returns
 returns c =
     let t = c.args.self.now.names in
     let found : option_map (λ (x : Bor (List ℕ)). x.now) c.nth.result ≡ slice_get (table_names t) c.args.instance.number =
-    nth_from_yields_List c.nth.result c.nth.new.self c.from.result c.nth.ensures.ran (YieldsList-from_first (λ x. x.now) names_left {s = c.iter.result} (table_names t) c.iter.ensures)
-    ∙ ap (slice_get (table_names t)) (c.from.ensures ∙ c.number.ensures.value) in
+    nth_from_yields_List c.nth.result c.nth.new.self _ c.nth.ensures.ran (YieldsList-from_first (λ x. x.now) names_left {s = c.iter.result} (table_names t) c.iter.ensures)
+    ∙ ap (slice_get (table_names t)) (search rules) in
     record { value = found; short = short_told (λ (x : Bor (List ℕ)). x.now) t.bytes.now t.from t.count c.args.instance.number (none_from _ t.checked) c.nth.result found }

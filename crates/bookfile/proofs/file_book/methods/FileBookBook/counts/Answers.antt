@@ -1,4 +1,4 @@
-use Rattle.std.proofs.Common.{◌∙◌}
+use Rattle.std.proofs.Common.{◌∙◌, rules}
 use Rattle.rows.specs.Tables.{rule_in}
 use Rattle.books.proofs.Counted.{counts_past}
 use Rattle.bookcheck.specs.Layout.{rows_from}
@@ -11,4 +11,4 @@ returns-in_err-row c = c.from_residual.ensures ∙ counts_past (rule_in c.args.s
 pub returns : goal.returns
 returns c =
     counts_told c.args.self.now.rules.bytes.now rows_from c.args.self.now.rules.count c.args.n c.in_ok-row.row.bytes.now _ _
-    c.in_ok-row.ensures.1 c.required.ensures c.barred.ensures c.in_ok-row.ensures.0
+    c.in_ok-row.ensures.1 (search rules) (search rules) c.in_ok-row.ensures.0

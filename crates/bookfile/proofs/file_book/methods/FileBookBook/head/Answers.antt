@@ -1,4 +1,4 @@
-use Rattle.std.proofs.Common.{ap, ◌∙◌}
+use Rattle.std.proofs.Common.{ap, ◌∙◌, rules}
 use Rattle.books.specs.Asked.{numbered}
 use Rattle.refusals.specs.declared.Section.TheVariants.{Rules}
 use Rattle.refusals.proofs.Passed.{none_from}
@@ -15,7 +15,7 @@ returns-in_err-row c = ap numbered c.from_residual.ensures ∙ head_past (rule_i
 pub returns : goal.returns
 returns c =
     let t = c.args.self.now.rules in
-    head_told t.bytes.now rows_from t.count c.args.n c.in_ok-row.field-0.bytes.now c.new.result c.head.result
-    c.in_ok-row.ensures.1 c.head.ensures c.new.ensures
+    head_told t.bytes.now rows_from t.count c.args.n c.in_ok-row.field-0.bytes.now c.new.result _
+    c.in_ok-row.ensures.1 (search rules) c.new.ensures
     (head_low_in Rules t.bytes.now rows_from t.count (none_from _ t.checked) c.args.n c.in_ok-row.ensures.0)
     c.in_ok-row.ensures.0
