@@ -1,5 +1,6 @@
 -- Which steps stand after a call, as lists and as steps; and one exchange more. Assumes nothing.
-use Rattle.std.proofs.Common.{◌≡◌, ℕ, zero, suc, ltb, List, [], ◌∷◌, ◌++◌, length, take, Ok, Err, Some, IsSomeAnd, Result, sym, refl, ap, ◌∙◌, ap₂}
+use Rattle.std.proofs.Common.{◌≡◌, ℕ, ltb, List, [], ◌∷◌, ◌++◌, length, take, Ok, Err, Some, IsSomeAnd, Result, sym, refl, ap, ◌∙◌, ap₂}
+use Rattle.std.proofs.lemmas.List.{map_push, take-map}
 use Rattle.refusals.specs.declared.Told.{Told}
 use Rattle.refusals.specs.Telling.{refusal}
 use Rattle.refusals.specs.Checks.{refuse_if}
@@ -12,19 +13,10 @@ use Rattle.review.specs.Recalls.{going_back, kept_after}
 use Rattle.transcripts.specs.Asks.{propose, go_back, judged, went_back, Exchange}
 use Rattle.transcripts.specs.Hearing.{Lists, steps_by, then, stands, Settles, Heard}
 
-pub steps_added : (ls : List Lists) (p : Lists) → steps_by (ls ++ p ∷ []) ≡ steps_by ls ++ step_by p.0 p.1 ∷ []
-steps_added [] p = refl
-steps_added (q ∷ ls) p = ap (λ r. step_by q.0 q.1 ∷ r) (steps_added ls p)
-
-pub steps_taken : (n : ℕ) (ls : List Lists) → steps_by (take n ls) ≡ take n (steps_by ls)
-steps_taken zero ls = refl
-steps_taken (suc n) [] = refl
-steps_taken (suc n) (p ∷ ls) = ap (λ r. step_by p.0 p.1 ∷ r) (steps_taken n ls)
-
 -- a proposal, and the steps after its answer
 pub after_proposal : (ls : List Lists) (steps after : List Step) (said proposed : List ℕ) (r : Result Accepted Told) → after ≡ stand_after steps said proposed r
     → steps ≡ steps_by ls → after ≡ steps_by (then ls (propose said proposed) (Some (judged r)))
-after_proposal ls steps after said proposed (Ok a) e same = e ∙ ap (λ s. s ++ step_by said proposed ∷ []) same ∙ sym (steps_added ls (said, proposed))
+after_proposal ls steps after said proposed (Ok a) e same = e ∙ ap (λ s. s ++ step_by said proposed ∷ []) same ∙ sym (map_push (λ (p : Lists). step_by p.0 p.1) ls (said, proposed))
 after_proposal ls steps after said proposed (Err t) e same = e ∙ same
 
 -- going back, and the steps after its answer
@@ -32,7 +24,7 @@ pub after_return : (ls : List Lists) (steps after : List Step) (n : ℕ) (r : Re
     → steps ≡ steps_by ls → after ≡ steps_by (then ls (go_back n) (Some (went_back r)))
 after_return ls steps after n (Ok k) answer e same =
     let there = passed k n (refuse_if (ltb (length steps) n) (refusal 31 (length steps))) answer in
-    e ∙ ap₂ take there.1 same ∙ sym (steps_taken n ls)
+    e ∙ ap₂ take there.1 same ∙ take-map (λ (p : Lists). step_by p.0 p.1) n ls
 after_return ls steps after n (Err t) answer e same = e ∙ same
 
 -- one exchange more
