@@ -41,6 +41,7 @@ impl<'a, B: Book> Suspension<'a, B> {
     }
 
     // How many rules of the book below are set aside.
+    #[tactic(auto, using(crate::proofs::Skipping::rest_length))]
     fn aside(&self) -> usize
         ensures { length (rest self.now.numbers.now (B.Book.rules self.now.book)) + result ≡ length (B.Book.rules self.now.book) }
     {
