@@ -15,6 +15,7 @@ pub enum RunFault {
     Propose(ProposeFault),
 }
 
+// Kept: an impl for each fault, since the From that a derive writes has no contract for `?` to rest on.
 impl From<BookFault> for RunFault {
     ghost from_gives = { λ e r. r ≡ Book e };
 
