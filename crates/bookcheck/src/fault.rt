@@ -18,6 +18,7 @@ pub enum NameFault {
     Repeated { item: Item, at: usize },
 }
 
+// Kept: an impl for each fault, since the From that a derive writes has no contract for `?` to rest on.
 impl From<ReadFault> for NameFault {
     ghost from_gives = { λ e r. r ≡ NameRead e };
 

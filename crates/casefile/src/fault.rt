@@ -10,6 +10,7 @@ pub struct CaseFault {
     pub read: ReadFault,
 }
 
+// Kept: an impl for each fault, since the From that a derive writes has no contract for `?` to rest on.
 impl From<ReadFault> for CaseFault {
     ghost from_gives = { λ read r. r.read ≡ read };
 

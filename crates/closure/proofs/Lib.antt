@@ -2,4 +2,3 @@ pub mod Applying
 pub mod Adding
 pub mod Counting
 pub mod Closing
-pub mod Ranges

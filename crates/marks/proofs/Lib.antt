@@ -1,4 +1,5 @@
 pub mod Bits
+pub mod Chains
 pub mod Counted
 pub mod Held
 pub mod InARow

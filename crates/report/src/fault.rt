@@ -15,6 +15,7 @@ pub enum LineFault {
     Short(Short),
 }
 
+// Kept: an impl for each fault, since the From that a derive writes has no contract for `?` to rest on.
 impl From<ListFault> for LineFault {
     ghost from_gives = { λ e r. r ≡ InList e };
 

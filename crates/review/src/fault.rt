@@ -55,6 +55,7 @@ pub enum ShowFault {
     Short,
 }
 
+// Kept: an impl for each fault, since the From that a derive writes has no contract for `?` to rest on.
 impl From<SaidFault> for ProposeFault {
     ghost from_gives = { λ e r. r ≡ Said e };
 

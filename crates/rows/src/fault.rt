@@ -22,6 +22,7 @@ pub enum RowFault {
     Unused { item: Item, at: usize },
 }
 
+// Kept: an impl for each fault, since the From that a derive writes has no contract for `?` to rest on.
 impl From<ReadFault> for RowFault {
     ghost from_gives = { λ e r. r ≡ Read e };
 

@@ -16,6 +16,7 @@ pub enum SeriesFault {
     Movement,
 }
 
+// Kept: an impl for each fault, since the From that a derive writes has no contract for `?` to rest on.
 impl From<RowFault> for SeriesFault {
     ghost from_gives = { λ e r. r ≡ Row e };
 

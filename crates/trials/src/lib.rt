@@ -1,4 +1,4 @@
-// Tests over all layers, as tables.
+// Tests over all layers.
 #![tactic(auto)]
 
 #[cfg(test)]

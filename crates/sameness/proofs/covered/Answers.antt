@@ -1,7 +1,7 @@
 use Rattle.std.proofs.Common.{rules}
 use borrow.Author.Tests.{tests}
 use Rattle.norms.specs.Equal.{Covers}
-use Rattle.sameness.proofs.Chains.{all_decides, YieldsList-from_places}
+use Rattle.marks.proofs.Chains.{all_decides, YieldsList-from_places}
 use Rattle.sameness.proofs.covered.Goals as goal
 
 pub returns : goal.returns

@@ -2,7 +2,7 @@ use Rattle.std.proofs.Common.{◌≡◌, ℕ, Some, refl}
 use borrow.Author.Tests.{tests}
 use Rattle.marks.specs.Sets.{◌∈◌}
 use Rattle.books.specs.Asked.{body_of}
-use Rattle.closure.proofs.Ranges.{all_in_range, triple_is}
+use Rattle.marks.proofs.Chains.{all_in_range, triple_is}
 use Rattle.closure.proofs.Applying.{decides_passing}
 use Rattle.closure.proofs.round.BookRound.all_marks.Goals as goal
 

@@ -5,7 +5,7 @@ use Rattle.marks.specs.Sets.{among}
 use Rattle.norms.specs.Rules.{body}
 use Rattle.norms.proofs.Models.{same_bool}
 use Rattle.sameness.proofs.Bodies.{part_has, in_part}
-use Rattle.sameness.proofs.Chains.{any_in_range}
+use Rattle.marks.proofs.Chains.{any_in_range}
 use Rattle.sameness.proofs.part.Part.has.Goals as goal
 
 pub returns : goal.returns

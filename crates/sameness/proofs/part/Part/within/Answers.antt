@@ -5,7 +5,7 @@ use Rattle.std.proofs.lemmas.Bool.Decides.{Decides-like}
 use Rattle.marks.specs.Sets.{◌∈◌, ◌⊆◌, among}
 use Rattle.norms.specs.Rules.{body}
 use Rattle.sameness.proofs.Bodies.{part_has, in_part}
-use Rattle.sameness.proofs.Chains.{all_in_range, pair_is}
+use Rattle.marks.proofs.Chains.{all_in_range, pair_is}
 use Rattle.sameness.proofs.part.Part.within.Goals as goal
 
 pub returns : goal.returns

@@ -1,7 +1,7 @@
 use Rattle.std.proofs.Common.{rules}
 use borrow.Author.Tests.{tests}
 use Rattle.norms.specs.Equal.{Like}
-use Rattle.sameness.proofs.Chains.{any_decides, YieldsList-from_places}
+use Rattle.marks.proofs.Chains.{any_decides, YieldsList-from_places}
 use Rattle.sameness.proofs.rule.BookRule.has_like.Goals as goal
 
 pub returns : goal.returns

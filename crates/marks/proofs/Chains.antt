@@ -97,6 +97,9 @@ YieldsList-from_places g xs n {s} {f} size source callee each =
     subst (YieldsList (filter_map_steps nat_range_steps g) (λ y. y) s) (all_places xs)
     (YieldsList-from_filter_map g (slice_get xs) (YieldsList-at source (YieldsList-from_range 0 n (length xs) refl (omega arith))) callee each)
 
--- what a closure holds that borrows two values
+-- what a closure holds that borrows two values, or three
 pub pair_is : {A B : Type 0} (q : A × B) (a : A) (b : B) → (q.0 ≡ a) × (q.1 ≡ b) → q ≡ (a, b)
 pair_is q a b e = λ i. (e.0 i, e.1 i)
+
+pub triple_is : {A B C : Type 0} (q : A × B × C) (a : A) (b : B) (c : C) → (q.0 ≡ a) × (q.1 ≡ b) × (q.2 ≡ c) → q ≡ (a, b, c)
+triple_is q a b c e = λ i. (e.0 i, e.1 i, e.2 i)
