@@ -40,6 +40,7 @@ fn read_rules<'a>(reader: &mut Reader<'a>) -> Result<RuleTable<'a>, BookFault>
 
 // The names, where their count and they are in order. The reader, which stands at the count, moves past them only if
 // they are.
+// Kept: one function for the rules and one for the names, since limits, items and clauses all differ.
 fn read_names<'a>(reader: &mut Reader<'a>) -> Result<NameTable<'a>, BookFault>
     requires { reader.old.at ≡ names_count_at reader.old.bytes.now }
     ensures answer { answered book_told (result_map_both (λ _. tt {0}) (λ e. e) result) ≡ passes tt (names_check reader.old.bytes.now) }

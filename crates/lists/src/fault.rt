@@ -42,6 +42,7 @@ pub enum SaidFault {
 }
 
 // What is wrong with the proposed list, at a position counted from 0.
+// Kept: an enum for each list, since each of their refusals has a number of its own.
 #[derive(Clone, Copy, PartialEq, Eq, Debug)]
 pub enum ProposedFault {
     // The mark is above 1,023.

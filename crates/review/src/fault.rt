@@ -22,6 +22,7 @@ pub enum ProposeFault {
 }
 
 // There is no such finding; the spot is how many there are.
+// Kept: an enum for each call, also one of a single case, since it says what that call can answer.
 #[derive(Clone, Copy, PartialEq, Eq, Debug)]
 pub enum ListFault {
     NoSuch { findings: usize },
