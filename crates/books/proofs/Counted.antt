@@ -1,15 +1,15 @@
 -- What a book answers whose rules are made from a function of the index, and the rule that an answer is of. Assumes
 -- nothing.
-use Rattle.std.proofs.Common.{◌≡◌, ℕ, ◌<◌, ◌≤◌, List, map, length, Some, None, Option, sym, refl, ap, ◌∙◌, arith, MatchOption}
+use Rattle.std.proofs.Common.{◌≡◌, ℕ, ◌<◌, ◌≤◌, List, map, length, Some, None, Option, sym, refl, ap, ◌∙◌, arith}
 use Rattle.std.specs.List.{slice_get, range_with_len}
 use Rattle.std.specs.Option.{option_map}
 use Rattle.std.proofs.iter.runs.Lists.{none-some, same_Some}
 use Rattle.std.proofs.lemmas.List.FromFn.{length-map-range_with_len, get_or-map-range_with_len}
 use Rattle.std.proofs.lemmas.Option.{slice_get-get_or, slice_get_past}
-use Rattle.marks.specs.declared.mark.Mark.{Mark}
+pub use Rattle.marks.proofs.Making.{made_mark}
 use Rattle.norms.specs.Programs.{Rule}
 use Rattle.norms.specs.Rules.{body}
-use Rattle.books.specs.Asked.{head_of, counts_of, body_at, body_of, numbered}
+use Rattle.books.specs.Asked.{head_of, counts_of, body_at, body_of}
 
 -- an element of a list made from a function of the index
 pub nth_counted : {X : Type 0} (f : ℕ → X) (n k : ℕ) → k < n → slice_get (map f (range_with_len 0 n)) k ≡ Some (f k)
@@ -19,11 +19,6 @@ nth_counted f n k h =
 
 pub nth_counted_past : {X : Type 0} (f : ℕ → X) (n k : ℕ) → n ≤ k → slice_get (map f (range_with_len 0 n)) k ≡ None
 nth_counted_past f n k h = slice_get_past (map f (range_with_len 0 n)) k (omega (arith, length-map-range_with_len f 0 n))
-
--- a mark that was made from a number
-pub made_mark : (r : Option Mark) (m : ℕ) → MatchOption r (1024 ≤ m) (λ x. x.number ≡ m) → m ≤ 1023 → numbered r ≡ Some m
-made_mark None m high low = absurd (omega arith)
-made_mark (Some x) m e low = ap Some e
 
 -- the questions of a book, of rule n of so many
 module _ (rule : ℕ → Rule ℕ) (count n : ℕ) where
@@ -61,11 +56,3 @@ counted (Some r) q b e = (r, refl, ap (λ p. p.0) (same_Some _ _ e), ap (λ p. p
 pub rule_counted : (rules : List (Rule ℕ)) (n q b : ℕ) → counts_of rules n ≡ Some (q, b)
     → (r : Rule ℕ) × (slice_get rules n ≡ Some r) × (length r.required ≡ q) × (length r.barred ≡ b)
 rule_counted rules n q b told = counted (slice_get rules n) q b told
-
--- the rule whose head was told
-headed : (o : Option (Rule ℕ)) (m : ℕ) → option_map (λ (r : Rule ℕ). r.head) o ≡ Some m → (r : Rule ℕ) × (o ≡ Some r) × (r.head ≡ m)
-headed None m e = absurd (none-some m e)
-headed (Some r) m e = (r, refl, same_Some _ _ e)
-
-pub rule_headed : (rules : List (Rule ℕ)) (n m : ℕ) → head_of rules n ≡ Some m → (r : Rule ℕ) × (slice_get rules n ≡ Some r) × (r.head ≡ m)
-rule_headed rules n m told = headed (slice_get rules n) m told

@@ -2,7 +2,7 @@
 use Rattle.std.proofs.Common.{◌≡◌, ℕ, ◌+◌, ◌-◌, ◌<◌, List, Some, None, Ok, Err, Option, Result, sym, refl, ap, ◌∙◌, add-one, arith}
 use Rattle.refusals.specs.declared.Told.{Told}
 use Rattle.refusals.specs.Checks.{◌⨟◌, passes}
-use Rattle.refusals.proofs.Refused.{passed_by, refused_by}
+use Rattle.refusals.proofs.Refused.{passed, refused_by}
 use Rattle.reading.specs.Reads.{ends_at}
 use Rattle.casefile.specs.Cases.{after_step, step_check, case_step, end_from}
 
@@ -28,9 +28,9 @@ module _ (bs : List ℕ) where
 module _ (bs rs : List ℕ) (same : rs ≡ bs) (n k i : ℕ) (below : k < n) (end : Option Told) (ends : end_from bs (n - k) k i ≡ end) where
   pub goes_on : (j : ℕ) (x : Unit {0}) → ◌≡◌ {A = Result (Unit {0}) Told} (Ok x) (passes tt (step_check (case_step k) rs i)) → j ≡ after_step rs i → end_from bs (n - (k + 1)) (k + 1) j ≡ end
   goes_on j x answer next =
-      let passed = ap (λ xs. step_check (case_step k) xs i) (sym same) ∙ passed_by tt x (step_check (case_step k) rs i) answer in
+      let none = ap (λ xs. step_check (case_step k) xs i) (sym same) ∙ (passed x tt (step_check (case_step k) rs i) answer).0 in
       ap (end_from bs (n - (k + 1)) (k + 1)) (next ∙ ap (λ xs. after_step xs i) same)
-      ∙ sym (end_more bs (n - k) (n - (k + 1)) k i (omega arith) passed)
+      ∙ sym (end_more bs (n - k) (n - (k + 1)) k i (omega arith) none)
       ∙ ends
 
   pub stops : (t : Told) → ◌≡◌ {A = Result (Unit {0}) Told} (Err t) (passes tt (step_check (case_step k) rs i)) → ◌≡◌ {A = Result (Unit {0}) Told} (Err t) (passes tt end)

@@ -3,6 +3,7 @@ use Rattle.std.proofs.Common.{◌≡◌, ℕ, ◌+◌, ◌-◌, Bool, not, true,
 use Rattle.std.specs.List.{slice_get}
 use Rattle.std.specs.Option.{option_map}
 use Rattle.std.proofs.iter.runs.Lists.{none-some, same_Some, nth_left, nth_right}
+use Rattle.std.proofs.lemmas.Bool.{not-true}
 use Rattle.marks.specs.declared.mark.Mark.{Mark}
 use Rattle.marks.specs.Sets.{Set, ◌∈◌}
 use Rattle.norms.specs.Programs.{Rule, Stays, Met}
@@ -10,9 +11,6 @@ use Rattle.norms.proofs.Places.{all_nth, all_from_nth}
 use Rattle.books.specs.Asked.{body_of, body_at, counts_of, numbered}
 use Rattle.books.proofs.Counted.{rule_counted}
 use Rattle.closure.specs.Rounds.{AllMarks, Place, Applies, Tells, Passes, outside}
-
-lacks : (b : Bool) → not b ≡ true → b ≡ false
-lacks b held = grind arith
 
 module _ (rules : List (Rule ℕ)) (n : ℕ) (r : Rule ℕ) (at : Place rules n r) where
   in_body : (k : ℕ) → body_of rules n k ≡ slice_get (r.required ++ r.barred) k
@@ -31,7 +29,7 @@ module _ (rules : List (Rule ℕ)) (n : ℕ) (r : Rule ℕ) (at : Place rules n 
       all_from_nth
       (λ b. M b ≡ false)
       r.barred
-      (λ k x l e. lacks (M x) (all (length r.required + k) x (omega arith) (omega arith) (in_body (length r.required + k) ∙ nth_right r.required r.barred k ∙ e)))
+      (λ k x l e. not-true (M x) (all (length r.required + k) x (omega arith) (omega arith) (in_body (length r.required + k) ∙ nth_right r.required r.barred k ∙ e)))
 
   marks_from_stays : (M : Set ℕ) → Stays M r → AllMarks rules n (length r.required) (length r.required + length r.barred) (outside M)
   marks_from_stays M stays k m from l e =

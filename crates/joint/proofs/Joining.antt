@@ -10,7 +10,7 @@ use Rattle.refusals.specs.declared.Told.{Told}
 use Rattle.refusals.specs.Telling.{refusal, answered}
 use Rattle.refusals.specs.Checks.{passes, where_passes}
 use Rattle.refusals.proofs.Passed.{test_failed}
-use Rattle.refusals.proofs.Refused.{passed_if, passed_by, refused_by}
+use Rattle.refusals.proofs.Refused.{passed_if, passed, refused_by}
 use Rattle.norms.specs.Programs.{Rule}
 use Rattle.norms.specs.Equal.{Equal}
 use Rattle.norms.proofs.Equal.{joined}
@@ -19,7 +19,7 @@ use Rattle.joint.specs.Joined.{joint_check, joint_rules, EitherOrder}
 -- what `ok` of a call's answer says of its check c
 module _ {E : Type 0} (told : E → Told) where
   pub ok_passed : (r : Result (Unit {0}) E) (c : Option Told) → answered told r ≡ passes tt c → result_ok r ≡ Some tt → c ≡ None
-  ok_passed (Ok x) c answer ok = passed_by tt x c answer
+  ok_passed (Ok x) c answer ok = (passed x tt c answer).0
   ok_passed (Err e) c answer ok = absurd (let z : ◌≡◌ {A = ℕ} 0 1 = cc in omega arith)
 
   pub ok_refused : (r : Result (Unit {0}) E) (c : Option Told) → answered told r ≡ passes tt c → result_ok r ≡ None → (t : Told) × (c ≡ Some t)

@@ -9,7 +9,7 @@ use Rattle.refusals.specs.Checks.{◌⨟◌, refuse_if, first_below, passes}
 use Rattle.refusals.specs.Rising.{unrising}
 use Rattle.refusals.proofs.Rising.{is_first}
 use Rattle.refusals.proofs.First.{first_none, first_passed, first_found}
-use Rattle.refusals.proofs.Passing.{passed, stopped}
+use Rattle.refusals.proofs.Refused.{passed, refused_by}
 use Rattle.marks.specs.Sets.{Set, nothing, among}
 use Rattle.marks.specs.Words.{with_mark}
 use Rattle.marks.specs.declared.mark.Mark.{Mark}
@@ -72,7 +72,7 @@ module _ (n : ℕ) (bars : ℕ → ℕ → Option Told) (xs : List ℕ) where
       rising e = low ∙ ap (λ b. refuse_if b (refusal (n + 1) i) ⨟ bars m.number i) e
 
       pub stop_barred : r ≡ false → (t : Told) → Err t ≡ passes (tt {0}) (bars m.number i) → Err t ≡ passes (among xs) (list_check n bars xs)
-      stop_barred e t f = stop t (rising e ∙ stopped t tt (bars m.number i) f)
+      stop_barred e t f = stop t (rising e ∙ refused_by tt (bars m.number i) t f)
 
       pub gather_more : r ≡ false → Ok (tt {0}) ≡ passes (tt {0}) (bars m.number i) → (R : Set ℕ) → R ≡ with_mark m.number S → Gathered (i + 1) R (Some m)
       gather_more e f R added = (

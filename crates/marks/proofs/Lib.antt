@@ -4,5 +4,6 @@ pub mod Counted
 pub mod Held
 pub mod InARow
 pub mod Made
+pub mod Making
 pub mod Numbers
 pub mod Words

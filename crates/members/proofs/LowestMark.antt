@@ -9,6 +9,7 @@ use Rattle.std.proofs.lemmas.Bool.{cases_lt}
 use Rattle.marks.specs.Members.{counted, marks_in, lowest, number_of, words_of}
 use Rattle.marks.specs.Sets.{Set}
 use Rattle.marks.specs.declared.mark.Mark.{Mark}
+use Rattle.marks.proofs.Making.{Made, made_mark}
 use Rattle.marks.proofs.Words.{get_or_words_of, length_words_of}
 use Rattle.members.proofs.First.{NoneBelow, none_on, First, first_bit}
 use Rattle.members.proofs.Numbers.{number_below}
@@ -48,14 +49,6 @@ lowest_first M m lt none here =
 abbrev pub lowest_of : ℕ → ℕ → ℕ
 lowest_of i w = 64 * i + count_trailing_zeros 64 w
 
--- what the making of a mark answers
-abbrev pub Made : Option Mark → ℕ → Type 0
-Made r n = MatchOption r (1024 ≤ n) (λ m. m.number ≡ n)
-
-made_mark : (r : Option Mark) (n : ℕ) → n < 1024 → Made r n → option_map (λ (m : Mark). m.number) r ≡ Some n
-made_mark None n low past = absurd (omega arith)
-made_mark (Some m) n low e = ap Some e
-
 -- word i of a set that has no mark in the words below
 module _ (M : Set ℕ) (ws : List ℕ) (i : ℕ) (are : ws ≡ words_of M) (lt : i < 16) (none : NoneBelow M (64 * i)) where
   word : get_or ws i 0 ≡ number_of (λ k. M (64 * i + k)) 64
@@ -77,7 +70,7 @@ module _ (M : Set ℕ) (ws : List ℕ) (i : ℕ) (are : ws ≡ words_of M) (lt :
       (low, lowest_first M (64 * i + t) low (none_on M (64 * i) t none first.before) (first.here within))
 
   lowest_made : (r : Option Mark) → 0 < get_or ws i 0 → Made r (lowest_of i (get_or ws i 0)) → option_map (λ (m : Mark). m.number) r ≡ lowest M
-  lowest_made r some made = let found = lowest_in_word some in made_mark r _ found.0 made ∙ sym found.1
+  lowest_made r some made = let found = lowest_in_word some in made_mark r _ made (omega (arith, found.0)) ∙ sym found.1
 
 -- the first n words are all 0
 none_in_words : (M : Set ℕ) (ws : List ℕ) → ws ≡ words_of M → (n : ℕ) → n ≤ 16 → AllWithin (λ w. w ≡ 0) ws 0 n → NoneBelow M (64 * n)

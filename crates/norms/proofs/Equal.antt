@@ -31,9 +31,6 @@ all_alike P xs ys same each = among_all P ys (λ m in_ys. all_among P xs each m 
 pub like_itself : (r : Rule ℕ) → Like r r
 like_itself r = record { head = refl; required = refl; barred = refl }
 
-like_turned : (r s : Rule ℕ) → Like r s → Like s r
-like_turned r s like = record { head = sym like.head; required = sym like.required; barred = sym like.barred }
-
 like_through : (r s t : Rule ℕ) → Like r s → Like s t → Like r t
 like_through r s t first second =
     record { head = first.head ∙ second.head; required = first.required ∙ second.required; barred = first.barred ∙ second.barred }

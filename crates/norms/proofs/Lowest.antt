@@ -1,7 +1,6 @@
 -- The lowest mark of a set, and the lowest dated mark that one trace has and another lacks. Assumes nothing.
 --     Covered sets others n    at the steps before n, the first have no mark that the others lack
-use Rattle.std.proofs.Common.{◌≡◌, ℕ, zero, suc, ◌+◌, ◌<◌, ◌≤◌, Bool, true, false, not, ◌&&◌, ◌≢◌, ◌⊎◌, List, [], ◌∷◌, length, Some, None, Option, unwrap_or, sym, refl, ap, ◌∙◌, inl, inr, ⊎_elim, arith}
-use mathlib.Core.Path.{fun_ext}
+use Rattle.std.proofs.Common.{◌≡◌, ℕ, zero, suc, ◌+◌, ◌<◌, ◌≤◌, Bool, true, false, not, ◌&&◌, ◌≢◌, ◌⊎◌, List, [], ◌∷◌, length, Some, None, unwrap_or, sym, refl, ap, ◌∙◌, inl, inr, ⊎_elim, arith}
 use Rattle.std.specs.List.{slice_get, AllByRecursion}
 use Rattle.std.proofs.iter.runs.Lists.{none-some, same_Some}
 use Rattle.std.proofs.ByRecursion.{kept_by_passes}
@@ -50,24 +49,8 @@ module _ (M : Set ℕ) where
   lowest_none e k low =
       ⊎_elim (λ held. absurd (none_in (marks_in M) k e (marks_each k low held))) (λ lacks. lacks) (cases_Bool (M k))
 
-  pub none_lowest : ((m : ℕ) → M m ≡ false) → lowest M ≡ None
-  none_lowest none = from (lowest M) refl
-    where
-      from : (o : Option ℕ) → lowest M ≡ o → lowest M ≡ None
-      from None e = e
-      from (Some m) e = absurd (both_ways (M m) (none m) (lowest_held m e))
-
--- sets of which neither has a mark that the other lacks
+-- of sets that are the same, neither has a mark that the other lacks
 module _ {A : Type 0} (S R : Set A) where
-  same_test : (a b : Bool) → (a && not b) ≡ false → (b && not a) ≡ false → a ≡ b
-  same_test true true e f = refl
-  same_test true false e f = e
-  same_test false true e f = sym f
-  same_test false false e f = refl
-
-  pub same_sets : ((a : A) → beyond S R a ≡ false) → ((a : A) → beyond R S a ≡ false) → S ≡ R
-  same_sets none nor = fun_ext λ a. same_test (S a) (R a) (none a) (nor a)
-
   pub none_beyond : S ≡ R → (a : A) → beyond S R a ≡ false
   none_beyond same a = ap (λ (X : Set A). X a && not (R a)) same ∙ none (R a)
     where

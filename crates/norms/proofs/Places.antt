@@ -1,11 +1,10 @@
 -- What stands at the places of lists. Assumes nothing.
 --     In xs x        x stands at some place of xs
 --     Rising R xs    R holds of each element of xs and each that stands after it
-use Rattle.std.proofs.Common.{◌≡◌, ℕ, zero, suc, ◌+◌, ◌<◌, Bool, true, List, [], ◌∷◌, ◌++◌, map, length, Some, filter, sym, refl, ap, ◌∙◌, subst, ⊎_elim, arith}
-use Rattle.std.specs.List.{slice_get, ContainsAt, AllByRecursion}
+use Rattle.std.proofs.Common.{◌≡◌, ℕ, zero, suc, ◌+◌, ◌<◌, Bool, true, List, [], ◌∷◌, ◌++◌, map, length, Some, filter, refl, ap, ◌∙◌, subst, ⊎_elim, arith}
+use Rattle.std.specs.List.{slice_get, AllByRecursion}
 use Rattle.std.specs.Option.{option_map}
 use Rattle.std.proofs.iter.runs.Lists.{none-some, same_Some, slice_get_within, nth_left, nth_right, slice_get-map}
-use Rattle.std.proofs.lemmas.Option.{slice_get-get_or}
 use Rattle.std.proofs.ByRecursion.{all_kept_by, All-append, All-map, All-weaker}
 use Rattle.std.proofs.lemmas.Bool.{cases_Bool, cond-true, cond-false, cond_both}
 
@@ -24,12 +23,6 @@ module _ {A : Type 0} (P : A → Type 0) where
       (each 0 y (omega arith) refl, all_from_nth xs (λ k x l e. each (suc k) x (omega arith) e))
 
 module _ {A : Type 0} where
-  pub in_has : (xs : List A) (x : A) → In xs x → ContainsAt xs x
-  in_has xs x (k, at) = let inside = slice_get_within xs k x at in (k, inside, λ d. same_Some _ _ (sym (slice_get-get_or xs k d inside) ∙ at))
-
-  pub has_in : (xs : List A) (x : A) → ContainsAt xs x → In xs x
-  has_in xs x (k, inside, at) = (k, slice_get-get_or xs k x inside ∙ ap Some (at x))
-
   pub in_left : (xs ys : List A) (x : A) → In xs x → In (xs ++ ys) x
   in_left xs ys x (k, at) = (k, nth_left xs ys k (slice_get_within xs k x at) ∙ at)
 

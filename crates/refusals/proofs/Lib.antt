@@ -1,5 +1,4 @@
 pub mod First
-pub mod Passing
 pub mod Passed
 pub mod Refused
 pub mod Rising

@@ -20,13 +20,13 @@ pub refused_by : {T : Type 0} (x : T) (c : Option Told) (t : Told) → ◌≡◌
 refused_by x None t e = absurd (let z : ◌≡◌ {A = ℕ} 0 1 = cc in omega arith)
 refused_by x (Some u) t e = cc
 
-pub passed_by : {T : Type 0} (x y : T) (c : Option Told) → ◌≡◌ {A = Result T Told} (Ok y) (passes x c) → c ≡ None
-passed_by x y None e = refl
-passed_by x y (Some u) e = absurd (let z : ◌≡◌ {A = ℕ} 0 1 = cc in omega arith)
+pub passed : {T : Type 0} (x y : T) (c : Option Told) → ◌≡◌ {A = Result T Told} (Ok x) (passes y c) → (c ≡ None) × (x ≡ y)
+passed x y None e = (refl, cc)
+passed x y (Some u) e = absurd (let z : ◌≡◌ {A = ℕ} 0 1 = cc in omega arith)
 
 -- a call that makes the check c, which passes exactly where P holds
 pub passes_exactly : {E P : Type 0} (told : E → Told) (r : Result (Unit {0}) E) (c : Option Told) → (c ≡ None) ↔ P → answered told r ≡ passes tt c → (is_ok r ≡ true) ↔ P
-passes_exactly told (Ok x) c law answer = ((λ ok. law.0 (passed_by tt x c answer)), (λ p. refl))
+passes_exactly told (Ok x) c law answer = ((λ ok. law.0 (passed x tt c answer).0), (λ p. refl))
 passes_exactly told (Err e) c law answer = (
   (λ ok. absurd (false≢true ok)),
   (λ p. absurd (let none = law.1 p in let some = refused_by tt c (told e) answer in let z : ◌≡◌ {A = ℕ} 0 1 = cc in omega arith)),
@@ -35,7 +35,7 @@ passes_exactly told (Err e) c law answer = (
 -- a loop that makes the checks c below n by calls: the call at i made the check d
 module _ {S : Type 0} (x : S) (c : ℕ → Option Told) (i : ℕ) (d : Option Told) (before : first_below i c ≡ None) (same : d ≡ c i) where
   pub call_passed : (z : S) → ◌≡◌ {A = Result S Told} (Ok z) (passes x d) → first_below (i + 1) c ≡ None
-  call_passed z e = first_passed c i before (sym same ∙ passed_by x z d e)
+  call_passed z e = first_passed c i before (sym same ∙ (passed z x d e).0)
 
   pub call_refused : {T : Type 0} (y : T) (t : Told) → ◌≡◌ {A = Result S Told} (Err t) (passes x d) → (n : ℕ) → i < n → ◌≡◌ {A = Result T Told} (Err t) (passes y (first_below n c))
   call_refused y t e n below = refused_at y c i n t before (sym same ∙ refused_by x d t e) below

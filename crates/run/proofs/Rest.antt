@@ -2,7 +2,7 @@
 use Rattle.std.proofs.Common.{◌≡◌, ℕ, suc, ◌+◌, ◌-◌, ◌<◌, ◌≤◌, List, ◌∷◌, get_or, Some, None, Ok, Err, Option, sym, refl, ap, ◌∙◌, subst, subst₂, ⊎_elim, arith}
 use Rattle.refusals.specs.declared.Told.{Told}
 use Rattle.refusals.specs.Checks.{◌⨟◌, passes, where_passes}
-use Rattle.refusals.proofs.Passing.{passed, stopped}
+use Rattle.refusals.proofs.Refused.{passed, refused_by}
 use Rattle.reading.specs.Reads.{ends_at}
 use Rattle.casefile.specs.Cases.{steps_from, end_from, step_check, case_step, count_check, case_steps, case_end, said_at, proposed_at, after_step}
 use Rattle.norms.specs.Programs.{Rule}
@@ -76,7 +76,7 @@ module _ (rules : List (Rule ℕ)) (bs rs : List ℕ) (at : ℕ) (steps : List S
       → Hears rules steps (case_steps bs) (case_end bs) out steps
   unfolding Hears
   count_stops out t e o =
-      let c : count_check bs 0 ≡ Some t = sym (ap (λ x. count_check x at) same ∙ ap (count_check bs) front) ∙ stopped t (get_or rs at 0) (count_check rs at) e in
+      let c : count_check bs 0 ≡ Some t = sym (ap (λ x. count_check x at) same ∙ ap (count_check bs) front) ∙ refused_by (get_or rs at 0) (count_check rs at) t e in
       subst (λ k. Hears rules steps (where_passes k (steps_from bs (get_or bs 0 0) 0 1)) (k ⨟ end_from bs (get_or bs 0 0) 0 1) out steps) (sym c) (o, refl)
 
   pub count_goes_on : (n j : ℕ) → Ok n ≡ passes (get_or rs at 0) (count_check rs at) → j ≡ at + 1

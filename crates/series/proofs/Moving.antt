@@ -13,7 +13,7 @@ use Rattle.marks.specs.Words.{bit}
 use Rattle.reading.specs.Reads.{there, part}
 use Rattle.rows.specs.Rows.{body_count, row_check, row_check_at}
 use Rattle.refusals.proofs.Passed.{all_passed, both_passed}
-use Rattle.refusals.proofs.Refused.{passed_if, refused_if, refused_by, passed_by}
+use Rattle.refusals.proofs.Refused.{passed_if, refused_if, refused_by, passed}
 use Rattle.series.specs.declared.movement.Movement.{Movement}
 use Rattle.series.specs.Moved.{mark_in, moved}
 use Rattle.series.specs.Checks.{the_row, out_of_bounds, high_check, position_check, movement_check, series_check}
@@ -133,4 +133,4 @@ module _ (row : List ℕ) (m : Movement) (here : Item) (bs : List ℕ) (at : ℕ
   row_refused x t e = sym (ap (passes x) (by_row ∙ ap (λ c. c ⨟ movement_check row m) (refused_by tt (row_check_at here bs at) t e)))
 
   pub row_passed : ◌≡◌ {A = Result (Unit {0}) Told} (Ok tt) (passes tt (row_check_at here bs at)) → series_check row m ≡ movement_check row m
-  row_passed e = by_row ∙ ap (λ c. c ⨟ movement_check row m) (passed_by tt tt (row_check_at here bs at) e)
+  row_passed e = by_row ∙ ap (λ c. c ⨟ movement_check row m) (passed tt tt (row_check_at here bs at) e).0

@@ -1,11 +1,11 @@
 -- What is handed on, one instance after the other. Assumes nothing.
-use Rattle.std.proofs.Common.{◌≡◌, ℕ, ◌+◌, ◌*◌, ◌<◌, ◌≤◌, Bool, true, false, cond, not, ◌&&◌, ◌||◌, eqb, ltb, List, [], ◌∷◌, ◌++◌, sym, refl, ap, ◌∙◌, ⊎_elim, arith}
+use Rattle.std.proofs.Common.{◌≡◌, ℕ, ◌+◌, ◌*◌, ◌<◌, ◌≤◌, Bool, true, false, cond, not, ◌&&◌, ◌||◌, eqb, ltb, sym, refl, ap, ◌∙◌, ⊎_elim, arith}
 use mathlib.Core.Path.{fun_ext}
 use Rattle.std.proofs.lemmas.Bool.{cases_lt, cases_order, eq-eqb, ne_eqb, lt-ltb, le-ltb}
 use Rattle.marks.specs.Sets.{Set}
 use Rattle.marks.specs.Words.{with_mark}
 use Rattle.marks.specs.Numbers.{mark, attribute, instance, carried, created, ended}
-use Rattle.norms.specs.Steps.{Step, handed_on, inherited}
+use Rattle.norms.specs.Steps.{handed_on}
 
 -- only carried marks are handed on
 pub handed_carried : (M : Set ℕ) (m : ℕ) → eqb (attribute m) carried ≡ false → handed_on M m ≡ false
@@ -75,9 +75,3 @@ hand_all M S low all = fun_ext λ m.
     (λ below. all m ∙ ap (λ t. t && handed_on M m) (lt-ltb m 1024 below))
     (λ past. all m ∙ ap (λ t. t && handed_on M m) (le-ltb m 1024 past) ∙ sym (handed_past M low m past))
     (cases_lt m 1024)
-
--- the last step hands on
-pub inherited_last : (steps : List Step) (s : Step) → inherited (steps ++ s ∷ []) ≡ handed_on s.marks
-inherited_last [] s = refl
-inherited_last (t ∷ []) s = refl
-inherited_last (t ∷ u ∷ steps) s = inherited_last (u ∷ steps) s

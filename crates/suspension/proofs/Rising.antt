@@ -1,10 +1,11 @@
 -- Numbers that pass the check rise. Assumes nothing.
-use Rattle.std.proofs.Common.{◌≡◌, ℕ, suc, ◌+◌, ◌-◌, ◌<◌, ◌≤◌, Bool, true, false, not, ltb, leb, List, [], ◌∷◌, length, get_or, Some, None, Option, MatchOption, sym, refl, ap, ◌∙◌, subst, ⊎_elim, arith}
-use Rattle.std.proofs.lemmas.Bool.{cases_lt, and_left, and_right, and_cases, and_from, lt-leb, lt-ltb, le-ltb, le-leb, leb-false, ltb-false, or_parts}
+use Rattle.std.proofs.Common.{◌≡◌, ℕ, suc, ◌+◌, ◌-◌, ◌<◌, ◌≤◌, Bool, true, not, ltb, leb, List, [], ◌∷◌, length, get_or, Some, None, Option, MatchOption, sym, refl, ap, ◌∙◌, subst, ⊎_elim, arith}
+use Rattle.std.proofs.lemmas.Bool.{cases_lt, and_left, and_right, and_from, lt-leb, lt-ltb, le-ltb, le-leb, ltb-false, or_parts}
 use Rattle.refusals.specs.declared.Told.{Told}
 use Rattle.refusals.specs.Checks.{where_passes}
 use Rattle.refusals.specs.Rising.{unrising}
 use Rattle.refusals.proofs.Passed.{before_passed, after_passed, each_passed, test_failed}
+use Rattle.refusals.proofs.Rising.{above}
 use Rattle.suspension.specs.Checks.{number_check, suspension_check}
 use Rattle.suspension.specs.Rest.{rising_from}
 
@@ -33,14 +34,6 @@ rises_from b [] first rises = refl
 rises_from b (x ∷ xs) first rises =
     and_from (leb b x) (rising_from (x + 1) xs) (le-leb b x (first (omega arith)))
     (rises_from (x + 1) xs (λ some. omega (arith, rises 0 (omega arith))) (λ i inside. rises (suc i) (omega arith)))
-
-above : (xs : List ℕ) (i : ℕ) → unrising xs (suc i) ≡ false → get_or xs i 0 < get_or xs (suc i) 0
-above xs i up =
-    let here : suc i - 1 ≡ i = omega arith in
-    ⊎_elim
-    (λ first. absurd (omega (arith, ltb-false 0 (suc i) first)))
-    (λ low. omega (arith, leb-false (get_or xs (suc i) 0) (get_or xs (suc i - 1) 0) low, ap (λ k. get_or xs k 0) here))
-    (and_cases (ltb 0 (suc i)) (leb (get_or xs (suc i) 0) (get_or xs (suc i - 1) 0)) up)
 
 module _ (count : ℕ) (xs : List ℕ) (passed : suspension_check count xs ≡ None) where
   pub passed_few : length xs ≤ 16

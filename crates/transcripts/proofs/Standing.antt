@@ -4,7 +4,7 @@ use Rattle.std.proofs.lemmas.List.{map_push, take-map}
 use Rattle.refusals.specs.declared.Told.{Told}
 use Rattle.refusals.specs.Telling.{refusal}
 use Rattle.refusals.specs.Checks.{refuse_if}
-use Rattle.refusals.proofs.Passing.{passed}
+use Rattle.refusals.proofs.Refused.{passed}
 use Rattle.norms.specs.Programs.{Rule}
 use Rattle.norms.specs.Steps.{Step}
 use Rattle.review.specs.declared.review.Accepted.{Accepted}

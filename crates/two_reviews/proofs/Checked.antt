@@ -1,16 +1,16 @@
 -- The lists of a proposal pass their checks exactly where the proposal is free of the refusals before the judgement.
 -- Assumes nothing.
-use Rattle.std.proofs.Common.{◌≡◌, ℕ, zero, suc, ◌+◌, ◌-◌, ◌<◌, Bool, true, false, not, ltb, leb, ◌↔◌, List, length, get_or, None, Option, refl, ap, ⊎_elim, arith}
+use Rattle.std.proofs.Common.{◌≡◌, ℕ, zero, suc, ◌+◌, ◌-◌, ◌<◌, Bool, true, false, not, leb, ◌↔◌, List, length, get_or, None, Option, refl, ap, arith}
 use Rattle.std.specs.List.{AllByRecursion}
 use Rattle.std.proofs.ByRecursion.{All-get_or, All-from_get_or}
-use Rattle.std.proofs.lemmas.Bool.{and_cases, not-false, not_from_true, ltb-false, leb-false, le-ltb, lt-leb}
+use Rattle.std.proofs.lemmas.Bool.{not-false, not_from_true, ltb-false, leb-false, le-ltb, lt-leb}
 use Rattle.refusals.specs.declared.Told.{Told}
 use Rattle.refusals.specs.Telling.{refusal}
 use Rattle.refusals.specs.Checks.{refuse_if, ◌⨟◌}
 use Rattle.refusals.specs.Rising.{unrising}
 use Rattle.refusals.proofs.Passed.{before_passed, after_passed, both_passed, test_failed, each_passed, all_passed}
 use Rattle.refusals.proofs.Refused.{passed_if}
-use Rattle.refusals.proofs.Rising.{is_first, is_rising}
+use Rattle.refusals.proofs.Rising.{is_first, is_rising, above}
 use Rattle.norms.specs.Steps.{Step}
 use Rattle.lists.specs.Lists.{high, list_mark, list_check, says, bars_unsayable, bars_none, said_check, proposed_check}
 use Rattle.review.specs.Proposals.{lists_check}
@@ -36,12 +36,7 @@ module _ (xs : List ℕ) where
       is_rising xs (suc i) (get_or xs i 0) (omega arith) (λ _. ap (λ k. get_or xs k 0) (omega arith)) (rising i within)
 
   all_rising : Nowhere unrising xs → Rising xs
-  all_rising none i within =
-      let before : get_or xs (suc i - 1) 0 ≡ get_or xs i 0 = ap (λ k. get_or xs k 0) (omega arith) in
-      ⊎_elim
-      (λ first. absurd (omega (arith, ltb-false 0 (suc i) first)))
-      (λ above. omega (arith, leb-false (get_or xs (suc i) 0) (get_or xs (suc i - 1) 0) above))
-      (and_cases (ltb 0 (suc i)) (leb (get_or xs (suc i) 0) (get_or xs (suc i - 1) 0)) (none (suc i) within))
+  all_rising none i within = above xs i (none (suc i) within)
 
 -- the check of a list whose refusals begin with n, with what it bars beside
 module _ (n : ℕ) (bars : ℕ → ℕ → Option Told) (xs : List ℕ) where

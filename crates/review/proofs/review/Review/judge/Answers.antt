@@ -4,7 +4,7 @@ use Rattle.marks.specs.Words.{members}
 use Rattle.lists.specs.Lists.{said_check, proposed_check}
 use Rattle.norms.specs.Findings.{findings_in}
 use Rattle.steps.specs.Standing.{standing}
-use Rattle.refusals.proofs.Passing.{passed}
+use Rattle.refusals.proofs.Refused.{passed}
 use Rattle.review.proofs.Judging.{lists_pass, step_passes, judged_passes}
 use Rattle.review.proofs.review.Review.judge.Goals as goal
 

@@ -2,7 +2,7 @@ use Rattle.std.proofs.Common.{◌+◌, ◌≤◌, length, drop, ap, ◌∙◌, a
 use Rattle.std.proofs.lemmas.Bool.{ltb-false}
 use Rattle.std.proofs.lemmas.List.{length-take, length-drop}
 use Rattle.refusals.proofs.Passed.{test_failed}
-use Rattle.refusals.proofs.Passing.{passed}
+use Rattle.refusals.proofs.Refused.{passed}
 use Rattle.reading.specs.Reads.{part, there}
 use Rattle.rows.proofs.row.check.check_row.Goals as goal
 
