@@ -1,4 +1,6 @@
 // Series at their limits and past them.
+ghost use Rattle.std.specs.Prelude.{◌<◌};
+
 use crate::answers::{body_of, head_of, told};
 use books::Book;
 use refusals::{Item, Section, Told};
@@ -13,249 +15,62 @@ fn refusal(number: u8, spot: usize) -> Told {
     Item::of(Section::Series, 0).refusal(number, spot)
 }
 
-// A byte of the row that is changed, and how the row moves; the number and the spot of what is told, where the series
-// is refused, and how many rules it then has.
-struct Tried {
-    at: usize,
-    byte: u8,
-    width: u8,
-    count: u8,
-    moving: u16,
-    told: Option<(u8, usize)>,
-    rules: usize,
+// What is told of the series of the row with one byte changed, and how many rules it has.
+fn tried(at: usize, byte: u8, width: u8, count: u8, moving: u16) -> (Option<Told>, usize)
+    requires { at < 32 }
+{
+    let mut row = ROW;
+    row[at] = byte;
+    let movement = Movement {
+        width,
+        count,
+        moving,
+    };
+    let told = told(check_series(&row, movement));
+    (told, Series::new(&row, movement).len())
 }
 
-const TRIED: [Tried; 23] = [
-    // nothing moves
-    Tried {
-        at: 31,
-        byte: 0,
-        width: 127,
-        count: 128,
-        moving: 0,
-        told: None,
-        rules: 128,
-    },
-    Tried {
-        at: 31,
-        byte: 0,
-        width: 128,
-        count: 1,
-        moving: 0,
-        told: Some((11, 0)),
-        rules: 0,
-    },
-    Tried {
-        at: 31,
-        byte: 0,
-        width: 1,
-        count: 129,
-        moving: 0,
-        told: Some((11, 0)),
-        rules: 0,
-    },
-    Tried {
-        at: 31,
-        byte: 0,
-        width: 255,
-        count: 255,
-        moving: 65535,
-        told: Some((11, 0)),
-        rules: 0,
-    },
-    // the required mark reaches 1,023, and passes it
-    Tried {
-        at: 31,
-        byte: 0,
-        width: 1,
-        count: 128,
-        moving: 2,
-        told: None,
-        rules: 128,
-    },
-    Tried {
-        at: 31,
-        byte: 0,
-        width: 127,
-        count: 2,
-        moving: 2,
-        told: None,
-        rules: 2,
-    },
-    Tried {
-        at: 31,
-        byte: 0,
-        width: 127,
-        count: 3,
-        moving: 2,
-        told: Some((11, 0)),
-        rules: 0,
-    },
-    // the barred mark does, and the head stays just below
-    Tried {
-        at: 31,
-        byte: 0,
-        width: 1,
-        count: 127,
-        moving: 7,
-        told: None,
-        rules: 127,
-    },
-    Tried {
-        at: 31,
-        byte: 0,
-        width: 1,
-        count: 128,
-        moving: 4,
-        told: Some((11, 0)),
-        rules: 0,
-    },
-    Tried {
-        at: 31,
-        byte: 0,
-        width: 1,
-        count: 128,
-        moving: 1,
-        told: Some((11, 0)),
-        rules: 0,
-    },
-    // without a rule no mark is too high
-    Tried {
-        at: 31,
-        byte: 0,
-        width: 127,
-        count: 0,
-        moving: 7,
-        told: None,
-        rules: 0,
-    },
-    // positions that the row does not use
-    Tried {
-        at: 31,
-        byte: 0,
-        width: 1,
-        count: 1,
-        moving: 8,
-        told: Some((11, 0)),
-        rules: 0,
-    },
-    Tried {
-        at: 31,
-        byte: 0,
-        width: 0,
-        count: 0,
-        moving: 8,
-        told: Some((11, 0)),
-        rules: 0,
-    },
-    Tried {
-        at: 31,
-        byte: 0,
-        width: 1,
-        count: 1,
-        moving: 0x8000,
-        told: Some((11, 0)),
-        rules: 0,
-    },
-    // the row
-    Tried {
-        at: 0,
-        byte: 4,
-        width: 1,
-        count: 1,
-        moving: 0,
-        told: Some((4, 0)),
-        rules: 0,
-    },
-    Tried {
-        at: 1,
-        byte: 8,
-        width: 1,
-        count: 1,
-        moving: 0,
-        told: Some((5, 0)),
-        rules: 0,
-    },
-    Tried {
-        at: 1,
-        byte: 15,
-        width: 1,
-        count: 1,
-        moving: 0,
-        told: Some((5, 0)),
-        rules: 0,
-    },
-    Tried {
-        at: 2,
-        byte: 14,
-        width: 1,
-        count: 1,
-        moving: 0,
-        told: Some((3, 2)),
-        rules: 0,
-    },
-    Tried {
-        at: 3,
-        byte: 14,
-        width: 1,
-        count: 1,
-        moving: 0,
-        told: Some((3, 2)),
-        rules: 0,
-    },
-    Tried {
-        at: 4,
-        byte: 4,
-        width: 1,
-        count: 1,
-        moving: 0,
-        told: Some((4, 4)),
-        rules: 0,
-    },
-    Tried {
-        at: 6,
-        byte: 4,
-        width: 1,
-        count: 1,
-        moving: 0,
-        told: Some((4, 6)),
-        rules: 0,
-    },
-    Tried {
-        at: 8,
-        byte: 1,
-        width: 1,
-        count: 1,
-        moving: 0,
-        told: Some((6, 8)),
-        rules: 0,
-    },
-    Tried {
-        at: 31,
-        byte: 1,
-        width: 128,
-        count: 1,
-        moving: 0,
-        told: Some((6, 31)),
-        rules: 0,
-    },
-];
+// A series that passes, with so many rules.
+fn passes(rules: usize) -> (Option<Told>, usize) {
+    (None, rules)
+}
+
+// A series that is refused has none.
+fn refused(number: u8, spot: usize) -> (Option<Told>, usize) {
+    (Some(refusal(number, spot)), 0)
+}
 
 #[test]
 fn tried_series(rt: HostRuntime) {
-    for tried in &TRIED {
-        let mut row = ROW;
-        assert!(rt; tried.at < 32);
-        row[tried.at] = tried.byte;
-        let movement = Movement {
-            width: tried.width,
-            count: tried.count,
-            moving: tried.moving,
-        };
-        let expected = tried.told.map(|(number, spot)| refusal(number, spot));
-        assert_eq!(rt; told(check_series(&row, movement)), expected);
-        assert_eq!(rt; Series::new(&row, movement).len(), tried.rules);
-    }
+    // nothing moves
+    assert_eq!(rt; tried(31, 0, 127, 128, 0), passes(128));
+    assert_eq!(rt; tried(31, 0, 128, 1, 0), refused(11, 0));
+    assert_eq!(rt; tried(31, 0, 1, 129, 0), refused(11, 0));
+    assert_eq!(rt; tried(31, 0, 255, 255, 65535), refused(11, 0));
+    // the required mark reaches 1,023, and passes it
+    assert_eq!(rt; tried(31, 0, 1, 128, 2), passes(128));
+    assert_eq!(rt; tried(31, 0, 127, 2, 2), passes(2));
+    assert_eq!(rt; tried(31, 0, 127, 3, 2), refused(11, 0));
+    // the barred mark does, and the head stays just below
+    assert_eq!(rt; tried(31, 0, 1, 127, 7), passes(127));
+    assert_eq!(rt; tried(31, 0, 1, 128, 4), refused(11, 0));
+    assert_eq!(rt; tried(31, 0, 1, 128, 1), refused(11, 0));
+    // without a rule no mark is too high
+    assert_eq!(rt; tried(31, 0, 127, 0, 7), passes(0));
+    // positions that the row does not use
+    assert_eq!(rt; tried(31, 0, 1, 1, 8), refused(11, 0));
+    assert_eq!(rt; tried(31, 0, 0, 0, 8), refused(11, 0));
+    assert_eq!(rt; tried(31, 0, 1, 1, 0x8000), refused(11, 0));
+    // the row
+    assert_eq!(rt; tried(0, 4, 1, 1, 0), refused(4, 0));
+    assert_eq!(rt; tried(1, 8, 1, 1, 0), refused(5, 0));
+    assert_eq!(rt; tried(1, 15, 1, 1, 0), refused(5, 0));
+    assert_eq!(rt; tried(2, 14, 1, 1, 0), refused(3, 2));
+    assert_eq!(rt; tried(3, 14, 1, 1, 0), refused(3, 2));
+    assert_eq!(rt; tried(4, 4, 1, 1, 0), refused(4, 4));
+    assert_eq!(rt; tried(6, 4, 1, 1, 0), refused(4, 6));
+    assert_eq!(rt; tried(8, 1, 1, 1, 0), refused(6, 8));
+    assert_eq!(rt; tried(31, 1, 128, 1, 0), refused(6, 31));
 }
 
 #[test]
