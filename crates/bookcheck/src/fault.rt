@@ -8,6 +8,7 @@ use reading::ReadFault;
 use refusals::{Fault, Item, Told};
 use rows::RowFault;
 
+// Kept: item and offset side by side, since a struct of both would be taken apart at each use.
 #[derive(Clone, Copy, PartialEq, Eq, Debug)]
 pub enum NameFault {
     // The whole name is not there.

@@ -9,6 +9,7 @@ mod methods;
 
 #[derive(Clone, Copy)]
 pub struct NameTable<'a> {
+    // Kept: a count beside the bytes, since names have different lengths and there is no heap here.
     bytes: &'a [u8],
     from: usize,
     count: u8,

@@ -17,6 +17,7 @@ use rows::{Row, RowFault, check_row};
 
 #[derive(Clone, Copy)]
 pub struct RuleTable<'a> {
+    // Kept: the file's bytes and a count, and no slice of rows, since spots are offsets in the file.
     bytes: &'a [u8],
     count: u16,
     ghost few: { count ≤ 512 },

@@ -1,7 +1,6 @@
 -- What a book answers, by the rules that it means. Assumes nothing.
 --     head_of rules n          the head of rule n
---     required_of rules n      how many marks it requires
---     barred_of rules n        how many marks it bars
+--     counts_of rules n        how many marks it requires, and how many it bars
 --     body_of rules n k        its k-th body mark, required ones first
 -- Each is none past the end, and nowhere else. All count from 0.
 use Rattle.std.specs.Prelude.{ℕ, List, length, Some, None, Option}

@@ -4,7 +4,6 @@ use books::Book;
 use refusals::Fault;
 use review::{Review, Shown};
 
-// Kept: the bytes of a file, as docs/FORMATS.md lays them out, are plainest as a table.
 // 1 bars 9, and 9 bars 1; without names for them the file is refused, so there are two.
 const BOOK: [u8; 71] = [
     0, 2, //
@@ -13,6 +12,7 @@ const BOOK: [u8; 71] = [
     2, 1, 97, 1, 98,
 ];
 
+// Kept: a type beside `transcripts::Call`, whose lists are vectors, which no constant can hold.
 #[derive(Clone, Copy)]
 enum Click<'a> {
     // Proposes these marks; nothing is said.

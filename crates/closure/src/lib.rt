@@ -36,6 +36,7 @@ pub fn close<B: Book>(book: &B, proposed: &MarkSet, given: &MarkSet) -> Closure
             from: &marks,
         };
         let next = round.run();
+        // Kept: no `==`, since the mark that was added is what shows that the rounds end.
         if next.beyond(&marks).is_none() {
             return Closure { marks, depth };
         }

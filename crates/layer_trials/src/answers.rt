@@ -3,6 +3,7 @@ use books::Book;
 use refusals::{Fault, Told};
 
 // What is told, where the check refuses.
+// Kept: one for each crate of tests, since a crate of tests hands nothing out.
 pub(crate) fn told<F: Fault + Drop>(answer: Result<(), F>) -> Option<Told> {
     answer.err().map(|fault| fault.tell())
 }

@@ -1,4 +1,6 @@
 // A line in pieces. One that does not fit is refused, and the buffer is then as it was.
+// Kept: bytes into a lent buffer, and no Display, since what `write!` writes is told of a String alone, and there is no
+// heap here.
 ghost use Rattle.std.specs.Prelude.{◌≡◌, ◌^◌, ◌<◌, length};
 ghost use Rattle.lines.specs.Faults.{short_told};
 ghost use Rattle.lines.specs.Text.{joined};
@@ -25,7 +27,7 @@ pub(crate) fn write_pieces(buffer: &mut [u8], pieces: &[&[u8]]) -> Result<usize,
     if buffer.len() < needed {
         return Err(Short { needed });
     }
-    // Kept: the offset is a sum of lengths, which no chain gives more plainly.
+    // Kept: the offset is a sum of lengths; splitting the buffer at each piece is no plainer.
     let mut at = 0;
     for piece in pieces {
         buffer[at..at + piece.len()].copy_from_slice(piece);

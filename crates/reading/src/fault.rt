@@ -4,6 +4,7 @@ ghost use Rattle.reading.specs.Faults.{read_told};
 
 use refusals::{Fault, Item, Section, Told};
 
+// Kept: item and offset side by side, since a struct of both would be taken apart at each use.
 #[derive(Clone, Copy, PartialEq, Eq, Debug)]
 pub enum ReadFault {
     // The bytes end too early; the spot is the file's length.

@@ -10,6 +10,7 @@ ghost use Rattle.refusals.specs.Telling.{section_number, refusal, refusal_in};
 // The number of the refusal and its spot. A refusal of a file also has the item of the file.
 #[derive(Clone, Copy, PartialEq, Eq, Debug)]
 pub struct Told {
+    // Kept: the number itself, since it is what is shown; each fault has one definition that gives it.
     pub number: u8,
     pub item: Option<Item>,
     pub spot: usize,

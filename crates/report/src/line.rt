@@ -50,9 +50,7 @@ pub fn report_line<B: Book>(
     ensures text { buffer.new ≡ line_written (standing review.now.steps) (name_list names.now) k buffer.old }
 {
     let (step, number) = review.list(k)?;
-    let Some(mark) = Mark::new(number) else {
-        unreachable!()
-    };
+    let mark = Mark::new(number).unwrap();
     Ok(write_finding(buffer, step, word_of(mark), name_of(names, mark.instance()))?)
 }
 

@@ -97,8 +97,8 @@ impl Fault for ProposeFault {
             ProposeFault::Full => Told::call(21, 64),
             ProposeFault::Said(fault) => fault.tell(),
             ProposeFault::Proposed(fault) => fault.tell(),
-            ProposeFault::LeftOut { mark } => Told::call(27, mark as usize),
-            ProposeFault::Unfounded { mark } => Told::call(28, mark as usize),
+            ProposeFault::LeftOut { mark } => Told::call(27, usize::from(mark)),
+            ProposeFault::Unfounded { mark } => Told::call(28, usize::from(mark)),
         }
     }
 }
@@ -139,7 +139,7 @@ impl Fault for LookFault {
     fn tell(&self) -> Told {
         match *self {
             LookFault::Step(fault) => fault.tell(),
-            LookFault::High { mark } => Told::call(33, mark as usize),
+            LookFault::High { mark } => Told::call(33, usize::from(mark)),
         }
     }
 }

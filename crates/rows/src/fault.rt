@@ -6,6 +6,7 @@ ghost use Rattle.rows.specs.declared.fault.RowFault.TheVariants.{Read};
 use reading::ReadFault;
 use refusals::{Fault, Item, Told};
 
+// Kept: item and offset side by side, since a struct of both would be taken apart at each use.
 #[derive(Clone, Copy, PartialEq, Eq, Debug)]
 pub enum RowFault {
     // The whole row is not there.

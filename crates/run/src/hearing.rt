@@ -35,6 +35,7 @@ fn hear_step<B: Book>(
 // Reads one whole step at a time and proposes it, until one is refused; bytes left over are looked at
 // last.
 #[tactic(auto, using(crate::proofs::Rest::count_stops, crate::proofs::Rest::count_goes_on, crate::proofs::Rest::goes_on, crate::proofs::Rest::stops, crate::proofs::Rest::ends))]
+// Kept: apart from the check of a case file, since no closure could both read on and say what the review holds.
 pub fn hear<B: Book>(review: &mut Review<B>, case: &[u8]) -> Result<(), RunFault>
     ensures heard { Hears (B.Book.rules review.old.book) (standing review.old.steps) (case_steps case.now) (case_end case.now) (result_err (answered run_told result)) (standing review.new.steps) }
     ensures book { review.new.book ≡ review.old.book }

@@ -44,6 +44,7 @@ impl<'r, 'a, B: Book> Part<'r, 'a, B> {
     fn within<S: Book>(&self, other: &Part<'_, '_, S>) -> bool
         ensures { Decides result (among self.now ⊆ among other.now) }
     {
+        // Kept: a match, since the closure of `is_none_or` inside this one tells its caller nothing.
         (self.start..self.end).all(|place| match self.rule.body(place) {
             Some(mark) => other.has(mark),
             None => true,

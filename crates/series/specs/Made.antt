@@ -13,4 +13,4 @@ abbrev pub made_rules : List ℕ → Movement → List (Rule ℕ)
 made_rules row m = where_passes (series_check row m) (series_rules row m)
 
 abbrev pub rules_of : Series → List (Rule ℕ)
-rules_of s = series_rules s.marks.row.bytes.now s.marks.movement
+rules_of s = series_rules s.moving_row.row.bytes.now s.moving_row.movement

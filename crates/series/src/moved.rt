@@ -9,6 +9,7 @@ use crate::movement::Movement;
 use rows::Row;
 
 // Where a mark stands in a row: it is the head, or body mark k.
+// Kept: no Option, since the head is a mark too, and not the lack of one.
 #[derive(Clone, Copy)]
 pub(crate) enum Position {
     Head,

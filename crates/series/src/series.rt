@@ -9,6 +9,6 @@ mod methods;
 // There is no rule, or the check passes.
 #[derive(Clone, Copy)]
 pub struct Series<'a> {
-    marks: MovingRow<'a>,
-    ghost checked: { (marks.movement.count == 0 || not (is_some (series_check marks.row.bytes.now marks.movement))) ≡ true },
+    moving_row: MovingRow<'a>,
+    ghost checked: { (moving_row.movement.count == 0 || not (is_some (series_check moving_row.row.bytes.now moving_row.movement))) ≡ true },
 }

@@ -9,6 +9,7 @@ use crate::fault::SuspensionFault;
 use books::Book;
 
 // Whether the numbers rise and each names one of so many rules.
+// Kept: apart from the check of a list of marks, since any number may stand here and one refusal tells both faults.
 fn check_numbers(numbers: &[u16], count: usize) -> Result<(), SuspensionFault>
     ensures { answered suspension_told result ≡ passes tt (first_below (length numbers.now) (number_check count numbers.now)) }
 {

@@ -14,6 +14,7 @@ fn answer<B: Book>(review: &mut Review<B>, call: &Call, words: &mut [u64]) -> An
     ensures stands { (ls : List Lists) → standing review.old.steps ≡ steps_by ls → standing review.new.steps ≡ steps_by (then ls (ask_of call.now) (Some (reply_of result))) }
     ensures book { review.new.book ≡ review.old.book }
 {
+    // Kept: a match and no closure, since calls are data that callers keep and that the law speaks of.
     match call {
         Call::Propose { said, proposed } => Answer::Proposed(review.propose(said, proposed)),
         Call::GoBack { n } => Answer::WentBack(review.go_back(*n)),

@@ -2,6 +2,7 @@
 use refusals::{Fault, Item, Section, Told};
 
 // What is told, where the answer is a refusal.
+// Kept: one for each crate of tests, since a crate of tests hands nothing out.
 pub(crate) fn told<T: Drop, F: Fault + Drop>(answer: Result<T, F>) -> Option<Told> {
     answer.err().map(|fault| fault.tell())
 }

@@ -2,6 +2,7 @@
 use std::alloc::{AllocError, Global};
 use transcripts::{Call, Exchange};
 
+// Kept: a type beside `Call`, whose lists are vectors, which no constant can hold.
 #[derive(Clone, Copy)]
 pub(crate) enum Click<'a> {
     // What is said, and what is proposed.

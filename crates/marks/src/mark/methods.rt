@@ -48,7 +48,7 @@ impl Instance {
 
 impl Mark {
     // The mark of this number, or none above 1,023.
-    // Kept: a constructor for each of the two types, since their numbers are of two widths.
+    // Kept: a constructor for each of the two types beside the generic `numbered`, since callers have the number in its width.
     pub fn new(number: u16) -> Option<Mark>
         ensures { MatchOption result (1024 ≤ number) (λ m. m.number ≡ number) }
     {

@@ -51,6 +51,7 @@ impl<B: Book> Review<B> {
     }
 
     // Step and mark of finding k, counted from 0 by step and then by mark.
+    // Kept: the bound of the mark stands in a clause here and in `steps`, since what is answered is a pair of numbers.
     #[tactic(auto, using(norms::proofs::Listing::listed))]
     pub fn list(&self, k: usize) -> Result<(u8, u16), ListFault>
         ensures answer { answered list_told result ≡ listing (standing self.now.steps) k }

@@ -22,7 +22,7 @@ impl<'a> Series<'a> {
     {
         let count = check_series(row, movement).map_or(0, |()| movement.count);
         Series {
-            marks: MovingRow {
+            moving_row: MovingRow {
                 row: Row::new(row),
                 movement: Movement { count, ..movement },
             },
@@ -32,13 +32,13 @@ impl<'a> Series<'a> {
     // The mark of rule n at the position, if there is one.
     #[tactic(auto, using(crate::proofs::Asked::low_at, crate::proofs::Asked::mark_is, books::proofs::Counted::made_mark))]
     fn mark(&self, n: usize, position: Position) -> Option<Mark>
-        ensures { numbered result ≡ mark_of self.now.marks.row.bytes.now self.now.marks.movement n (place position) }
+        ensures { numbered result ≡ mark_of self.now.moving_row.row.bytes.now self.now.moving_row.movement n (place position) }
     {
         let n = u8::try_from(n).ok()?;
-        if n >= self.marks.movement.count || !self.marks.has(position) {
+        if n >= self.moving_row.movement.count || !self.moving_row.has(position) {
             return None;
         }
-        let number = u16::try_from(self.marks.moved(n, position)).ok()?;
+        let number = u16::try_from(self.moving_row.moved(n, position)).ok()?;
         Mark::new(number)
     }
 }
@@ -46,11 +46,11 @@ impl<'a> Series<'a> {
 impl Book for Series<'_> {
     ghost rules = { rules_of };
 
-    ghost sound = { λ s. sound_series s.marks.row.bytes.now s.marks.movement s.checked };
+    ghost sound = { λ s. sound_series s.moving_row.row.bytes.now s.moving_row.movement s.checked };
 
     #[tactic(auto, using(crate::proofs::Asked::size))]
     fn len(&self) -> usize {
-        usize::from(self.marks.movement.count)
+        usize::from(self.moving_row.movement.count)
     }
 
     #[tactic(auto, using(crate::proofs::Asked::head_told))]
@@ -61,7 +61,7 @@ impl Book for Series<'_> {
     #[tactic(auto, using(crate::proofs::Asked::counts_told, crate::proofs::Asked::size, books::proofs::Counted::counts_past))]
     fn counts(&self, n: usize) -> Option<(u8, u8)> {
         if n < self.len() {
-            Some((self.marks.row.required(), self.marks.row.barred()))
+            Some((self.moving_row.row.required(), self.moving_row.row.barred()))
         } else {
             None
         }

@@ -1,5 +1,6 @@
 // Filling a record, and the findings of its step.
 ghost use Rattle.std.specs.Prelude.{◌≡◌, ℕ, ◌<◌, ◌≤◌, true, length, Decides, MatchResult};
+ghost use Rattle.marks.specs.Sets.{nothing};
 ghost use Rattle.marks.specs.Words.{members};
 ghost use Rattle.norms.specs.Findings.{finding, findings_in};
 ghost use Rattle.steps.specs.Listed.{listed};
@@ -8,7 +9,10 @@ use crate::record::Record;
 use marks::{Attribute, Mark, MarkSet, Numbered};
 
 // No mark was said, and there is none.
+// Kept: no derive, since the empty set is made by `MarkSet::empty`.
 impl Default for Record {
+    ghost is_default = { λ r. (members r.said ≡ nothing) × (members r.marks ≡ nothing) };
+
     fn default() -> Record {
         Record::new(MarkSet::empty(), MarkSet::empty())
     }
@@ -74,13 +78,14 @@ impl Record {
     }
 
     // Finding k of the step, counted from 0 and rising by mark, or how many findings there are.
+    // Kept: the error is a count, with which a search over more steps goes on; it refuses nothing.
     pub fn finding(&self, k: usize) -> Result<u16, usize>
         ensures value { result ≡ listed (findings_in (members self.now.marks)) k }
         ensures low { MatchResult result (λ m. m < 1024) (λ n. n ≤ 1024) }
     {
         match Mark::all().filter(|mark| self.has_finding(*mark)).nth(k) {
             Some(mark) => Ok(mark.number()),
-            None => Err(self.findings() as usize),
+            None => Err(usize::from(self.findings())),
         }
     }
 }

@@ -45,6 +45,7 @@ impl Table {
         ensures { MatchOption result ((length (standing self.old) ≡ 64) × (self.new ≡ self.old)) (λ n. (n ≡ length (standing self.old) + 1) × (length (standing self.old) < 64) × (standing self.new ≡ standing self.old ++ (step_with said marks ∷ []))) }
     {
         let at = self.len();
+        // Kept: a place is taken, and its record is lent and filled, so that no other record is touched.
         self.records.try_push(Record::default()).ok()?;
         self.record_mut(at)?.fill(said, marks);
         Some(at as u8 + 1)
@@ -64,7 +65,7 @@ impl Table {
         ensures value { result ≡ listed (findings (standing self.now)) k }
         ensures low { IfOk result (λ d. d.1 < 1024) }
     {
-        // Kept: a chain over all findings would have to own each step's list of them.
+        // Kept: past the end the answer is how many there are, which a chain over all findings would count anew.
         let mut seen = 0;
         for (at, record) in self.records.iter().enumerate() {
             match record.finding(k - seen) {

@@ -30,7 +30,7 @@ impl<'a, B: Book> Suspension<'a, B> {
         if n >= self.book.len() {
             return None;
         }
-        // Kept: a fold is no plainer, since each test reads the number so far.
+        // Kept: a fold is no plainer, and its closure would need a clause of its own for the bound of the sum.
         let mut at = n;
         for aside in self.numbers {
             if usize::from(*aside) <= at {

@@ -25,4 +25,4 @@ returns-in-None-clause-value c =
     let past =
     nth_from_yields_List None c.nth.new.self c.args.k c.in-None.ensures.ran
     (YieldsList-from_filter _ (finding M) (YieldsList-at c.filter.ensures.source all) c.filter.ensures.closure (λ x r q k. search (rules, tests))) in
-    ap Err c.findings.ensures.value ∙ ap (λ o. ok_or o (length (findings_in M))) (past ∙ ap (λ xs. slice_get xs c.args.k) (found_all M))
+    ap Err (c.from.ensures ∙ c.findings.ensures.value) ∙ ap (λ o. ok_or o (length (findings_in M))) (past ∙ ap (λ xs. slice_get xs c.args.k) (found_all M))
