@@ -3,7 +3,8 @@ use Rattle.std.proofs.Common.{◌≡◌, ℕ, ◌+◌, ◌<◌, ◌≤◌, List,
 use Rattle.std.specs.List.{slice_get}
 use Rattle.marks.specs.declared.mark.Mark.{Mark}
 use Rattle.books.specs.Asked.{head_of, counts_of, body_of, numbered}
-use Rattle.books.proofs.Counted.{nth_counted, nth_counted_past, made_mark, head_is, counts_are, body_is}
+use Rattle.marks.proofs.Making.{made_mark}
+use Rattle.books.proofs.Counted.{nth_counted, nth_counted_past, head_is, counts_are, body_is}
 use Rattle.rows.specs.Rows.{head, required_count, barred_count, body_count, mark_at, marks}
 use Rattle.rows.specs.Tables.{row_in, rule_in, rules_in}
 use Rattle.bookcheck.specs.Layout.{name_at, name_in, names_in}

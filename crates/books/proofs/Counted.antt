@@ -6,7 +6,6 @@ use Rattle.std.specs.Option.{option_map}
 use Rattle.std.proofs.iter.runs.Lists.{none-some, same_Some}
 use Rattle.std.proofs.lemmas.List.FromFn.{length-map-range_with_len, get_or-map-range_with_len}
 use Rattle.std.proofs.lemmas.Option.{slice_get-get_or, slice_get_past}
-pub use Rattle.marks.proofs.Making.{made_mark}
 use Rattle.norms.specs.Programs.{Rule}
 use Rattle.norms.specs.Rules.{body}
 use Rattle.books.specs.Asked.{head_of, counts_of, body_at, body_of}

@@ -30,7 +30,7 @@ impl<'a> Series<'a> {
     }
 
     // The mark of rule n at the position, if there is one.
-    #[tactic(auto, using(crate::proofs::Asked::low_at, crate::proofs::Asked::mark_is, books::proofs::Counted::made_mark))]
+    #[tactic(auto, using(crate::proofs::Asked::low_at, crate::proofs::Asked::mark_is, marks::proofs::Making::made_mark))]
     fn mark(&self, n: usize, position: Position) -> Option<Mark>
         ensures { numbered result ≡ mark_of self.now.moving_row.row.bytes.now self.now.moving_row.movement n (place position) }
     {
