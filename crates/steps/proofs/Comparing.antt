@@ -16,7 +16,7 @@ use Rattle.norms.specs.Scenarios.{said_of, marks_of, trace, Lowest}
 use Rattle.norms.proofs.Lowest.{Covered, covered_more, covered_all, lowest_dated}
 use Rattle.steps.specs.declared.table.Table.{Table}
 use Rattle.steps.specs.declared.record.Record.{Record}
-use Rattle.steps.specs.Standing.{standing, step_of}
+use Rattle.steps.specs.Standing.{standing, step_of, records_of}
 use Rattle.steps.proofs.Places.{length_standing}
 
 low_members : (a : MarkSet) → Low (members a)
@@ -43,7 +43,7 @@ covered_first sets others zero m first = refl
 covered_first sets others (suc s) m first = absurd (omega arith)
 
 -- at each of the steps up to the last, the first table has no mark that the second lacks
-pub none_left : (t u : Table) (n : ℕ) → length t.records.items < n → Covered (marks_of (standing t)) (marks_of (standing u)) n
+pub none_left : (t u : Table) (n : ℕ) → length (records_of t) < n → Covered (marks_of (standing t)) (marks_of (standing u)) n
     → Lowest (beyond (trace (standing t)) (trace (standing u))) None
 none_left t u n last covered =
     covered_all (marks_of (standing t)) (marks_of (standing u)) n (omega (arith, length-map (standing t) (λ (s : Step). s.marks), length_standing t)) covered

@@ -1,12 +1,11 @@
 -- The steps that stand in a table. Assumes nothing.
-use Rattle.std.proofs.Common.{◌≡◌, ℕ, suc, ◌+◌, ◌-◌, ◌<◌, List, [], ◌∷◌, ◌++◌, map, length, get_or, set, unwrap_or, Some, None, MatchOption, Option, Bor, sym, refl, ap, ◌∙◌, add-one, arith}
-use mathlib.Core.List.{map-append}
+use Rattle.std.proofs.Common.{◌≡◌, ℕ, suc, ◌+◌, ◌-◌, ◌<◌, List, [], ◌∷◌, map, length, get_or, unwrap_or, Some, None, MatchOption, Option, Bor, sym, refl, ap, ◌∙◌, add-one, arith}
 use Rattle.std.specs.List.{slice_get}
 use Rattle.std.specs.Option.{option_map, option_copied}
 use Rattle.std.specs.Slice.{IsItemAt}
 use Rattle.std.proofs.slice.Searches.{copied_from_item}
 use Rattle.std.proofs.iter.runs.Lists.{none-some, slice_get-map}
-use Rattle.std.proofs.lemmas.List.{length-map, get_or-map, set_at}
+use Rattle.std.proofs.lemmas.List.{length-map, get_or-map}
 use Rattle.std.proofs.lemmas.Option.{slice_get-get_or}
 use Rattle.marks.specs.Sets.{Set, nothing}
 use Rattle.marks.specs.Words.{members}
@@ -15,15 +14,15 @@ use Rattle.norms.specs.Steps.{Step, handed_on, inherited}
 use Rattle.norms.specs.Traces.{of_step}
 use Rattle.steps.specs.declared.record.Record.{Record}
 use Rattle.steps.specs.declared.table.Table.{Table}
-use Rattle.steps.specs.Standing.{step_of, standing}
+use Rattle.steps.specs.Standing.{step_of, standing, records_of}
 
 -- as many steps stand as there are records
-pub length_standing : (t : Table) → length (standing t) ≡ length t.records.items
-length_standing t = length-map t.records.items step_of
+pub length_standing : (t : Table) → length (standing t) ≡ length (records_of t)
+length_standing t = length-map (records_of t) step_of
 
 -- the step at a place
-pub step_at : (t : Table) (i : ℕ) (r : Record) (d : Step) → i < length t.records.items → r ≡ get_or t.records.items i r → get_or (standing t) i d ≡ step_of r
-step_at t i r d h e = get_or-map step_of t.records.items i r d h ∙ ap step_of (sym e)
+pub step_at : (t : Table) (i : ℕ) (r : Record) (d : Step) → i < length (records_of t) → r ≡ get_or (records_of t) i r → get_or (standing t) i d ≡ step_of r
+step_at t i r d h e = get_or-map step_of (records_of t) i r d h ∙ ap step_of (sym e)
 
 -- the marks of the step at a place, by its number
 pub marks_here : (rs : List Record) (i : ℕ) (r : Record) → i < length rs → r ≡ get_or rs i r → members r.marks ≡ of_step (marks_of (map step_of rs)) (i + 1)
@@ -31,10 +30,6 @@ marks_here rs i r within here =
     let at : slice_get rs i ≡ Some r = slice_get-get_or rs i r within ∙ ap Some (sym here) in
     sym (ap (of_step (marks_of (map step_of rs))) (add-one i)
     ∙ ap (λ o. unwrap_or o nothing) (slice_get-map (λ (s : Step). s.marks) (map step_of rs) i ∙ ap (option_map (λ (s : Step). s.marks)) (slice_get-map step_of rs i ∙ ap (option_map step_of) at)))
-
--- one record more, filled after it was put at the end
-pub standing_more : (rs : List Record) (blank r : Record) → map step_of (set (rs ++ blank ∷ []) (length rs) r) ≡ map step_of rs ++ step_of r ∷ []
-standing_more rs blank r = ap (map step_of) (set_at rs blank [] r (length rs) refl) ∙ map-append step_of rs (r ∷ [])
 
 -- the marks of the step with the number n, which stands at place o, in the record q
 read_marks : (q : Option (Bor Record)) (M : Set ℕ) → MatchOption q (M ≡ nothing) (λ r. M ≡ members r.now.marks)

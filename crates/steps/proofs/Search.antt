@@ -9,12 +9,12 @@ use Rattle.norms.specs.Findings.{dated_from, findings, findings_in}
 use Rattle.steps.specs.declared.record.Record.{Record}
 use Rattle.steps.specs.declared.table.Table.{Table}
 use Rattle.steps.specs.Listed.{listed}
-use Rattle.steps.specs.Standing.{standing, step_of}
+use Rattle.steps.specs.Standing.{standing, step_of, records_of}
 use Rattle.steps.proofs.Places.{length_standing, step_at}
 use Rattle.steps.proofs.Listing.{count_step, list_here, entry_of, length_of}
 
 -- all findings of the steps before place i are seen, and k is not among them
-module _ (t : Table) (i : ℕ) (r : Record) (below : i < length t.records.items) (here : r ≡ get_or t.records.items i r)
+module _ (t : Table) (i : ℕ) (r : Record) (below : i < length (records_of t)) (here : r ≡ get_or (records_of t) i r)
     (seen k : ℕ) (counted : seen ≡ length (dated_from 1 (take i (standing t)))) (passed : seen ≤ k) where
   within : i < length (standing t)
   within = omega (arith, length_standing t)
@@ -35,7 +35,7 @@ module _ (t : Table) (i : ℕ) (r : Record) (below : i < length t.records.items)
       (omega arith, omega (arith, count_step (standing t) i (step_of r) within at))
 
 -- no finding has the number k
-pub none_left : (t : Table) (i seen k : ℕ) → i ≡ length t.records.items → seen ≡ length (dated_from 1 (take i (standing t))) → seen ≤ k
+pub none_left : (t : Table) (i seen k : ℕ) → i ≡ length (records_of t) → seen ≡ length (dated_from 1 (take i (standing t))) → seen ≤ k
     → Err seen ≡ listed (findings (standing t)) k
 none_left t i seen k all counted passed =
     let whole : seen ≡ length (findings (standing t)) = counted ∙ ap (λ l. length (dated_from 1 l)) (take_all i (standing t) (omega (arith, length_standing t))) in

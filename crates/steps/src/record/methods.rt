@@ -74,7 +74,9 @@ impl Record {
         ensures value { result ≡ length (findings_in (members self.now.marks)) }
         ensures low { result ≤ 1024 }
     {
-        Mark::all().filter(|mark| self.has_finding(*mark)).count() as u16
+        Mark::all()
+            .filter(|mark| self.is_finding(mark.number()))
+            .count() as u16
     }
 
     // Finding k of the step, counted from 0 and rising by mark, or how many findings there are.
@@ -83,9 +85,13 @@ impl Record {
         ensures value { result ≡ listed (findings_in (members self.now.marks)) k }
         ensures low { MatchResult result (λ m. m < 1024) (λ n. n ≤ 1024) }
     {
-        match Mark::all().filter(|mark| self.has_finding(*mark)).nth(k) {
-            Some(mark) => Ok(mark.number()),
-            None => Err(usize::from(self.findings())),
+        let mut seen = 0;
+        for mark in Mark::all().filter(|mark| self.is_finding(mark.number())) {
+            if seen == k {
+                return Ok(mark.number());
+            }
+            seen += 1;
         }
+        Err(seen)
     }
 }

@@ -18,7 +18,7 @@ impl Table {
         ensures { members result ≡ of_step (marks_of (standing self.now)) step }
     {
         step.checked_sub(1)
-            .and_then(|at| self.records.get(at))
+            .and_then(|at| self.records().get(at))
             .map_or_else(MarkSet::empty, |record| *record.marks())
     }
 
@@ -28,9 +28,9 @@ impl Table {
     {
         self.len() == other.len()
             && self
-                .records
+                .records()
                 .iter()
-                .zip(other.records.iter())
+                .zip(other.records())
                 .all(|(own, its)| own.same_said(its))
     }
 
@@ -38,7 +38,7 @@ impl Table {
     fn lowest_beyond(&self, other: &Table) -> Option<(u8, u16)>
         ensures { Lowest (beyond (trace (standing self.now)) (trace (standing other.now))) result }
     {
-        for (at, record) in self.records.iter().enumerate() {
+        for (at, record) in self.records().iter().enumerate() {
             if let Some(mark) = lowest_beyond(record.marks(), &other.marks_of(at + 1)) {
                 return Some((at as u8 + 1, mark.number()));
             }

@@ -9,6 +9,8 @@ impl Table {
     pub fn truncate(&mut self, n: usize)
         ensures { standing self.new ≡ take n (standing self.old) }
     {
-        self.records.truncate(n);
+        if n < self.count {
+            self.count = n;
+        }
     }
 }

@@ -1,17 +1,13 @@
 // What can be asked of the table and done to it.
-ghost use Rattle.std.specs.Prelude.{◌≡◌, ℕ, ◌+◌, ◌<◌, ◌≤◌, List, [], ◌∷◌, ◌++◌, length, ◌↔◌, IfOk, IsSome, Result, MatchOption};
-ghost use Rattle.std.specs.Borrow.{sem};
-ghost use Rattle.arrayvec.specs.ArrayVec.{array_vec_len};
+ghost use Rattle.std.specs.Prelude.{◌≡◌, ℕ, ◌+◌, ◌<◌, ◌≤◌, List, [], ◌∷◌, ◌++◌, length, IfOk, Result, MatchOption};
 ghost use Rattle.marks.specs.Words.{members};
 ghost use Rattle.norms.specs.Steps.{Step, inherited};
 ghost use Rattle.norms.specs.Findings.{findings};
-ghost use Rattle.steps.specs.Lending.{LendsRecord};
 ghost use Rattle.steps.specs.Listed.{listed};
-ghost use Rattle.steps.specs.Standing.{standing, step_with};
+ghost use Rattle.steps.specs.Standing.{standing, step_with, records_of};
 
 use crate::record::Record;
-use crate::table::Table;
-use arrayvec::ArrayVec;
+use crate::table::{Places, Table};
 use marks::MarkSet;
 
 impl Table {
@@ -20,7 +16,8 @@ impl Table {
         ensures { standing result ≡ [] }
     {
         Table {
-            records: ArrayVec::new(),
+            places: Places::new(),
+            count: 0,
         }
     }
 
@@ -29,25 +26,24 @@ impl Table {
         ensures value { result ≡ length (standing self.now) }
         ensures room { result ≤ 64 }
     {
-        self.records.len()
+        self.count
     }
 
-    // Lends the record at this place, to be filled, if there is one.
-    fn record_mut(&mut self, at: usize) -> Option<&mut Record>
-        ensures* writes_back { sem 𝓛 (LendsRecord self.entry at result) }
-        ensures within { IsSome result ↔ (at < array_vec_len self.old.records) }
+    // The records of the steps that stand, in their order.
+    pub(crate) fn records(&self) -> &[Record]
+        ensures { result.now ≡ records_of self.now }
     {
-        self.records.get_mut(at)
+        &self.places.records.as_slice()[..self.count]
     }
 
     // One step more, and its number; none where all 64 places are taken.
     pub fn add(&mut self, said: MarkSet, marks: MarkSet) -> Option<u8>
         ensures { MatchOption result ((length (standing self.old) ≡ 64) × (self.new ≡ self.old)) (λ n. (n ≡ length (standing self.old) + 1) × (length (standing self.old) < 64) × (standing self.new ≡ standing self.old ++ (step_with said marks ∷ []))) }
     {
-        let at = self.len();
-        // Kept: a place is taken, and its record is lent and filled, so that no other record is touched.
-        self.records.try_push(Record::default()).ok()?;
-        self.record_mut(at)?.fill(said, marks);
+        let at = self.count;
+        // Kept: the record of the next place is lent and filled, so that no other record is touched.
+        self.places.record_mut(at)?.fill(said, marks);
+        self.count = at + 1;
         Some(at as u8 + 1)
     }
 
@@ -55,7 +51,7 @@ impl Table {
     pub fn inherited(&self) -> MarkSet
         ensures { members result ≡ inherited (standing self.now) }
     {
-        self.records
+        self.records()
             .last()
             .map_or_else(MarkSet::empty, Record::hands_on)
     }
@@ -67,7 +63,7 @@ impl Table {
     {
         // Kept: past the end the answer is how many there are, which a chain over all findings would count anew.
         let mut seen = 0;
-        for (at, record) in self.records.iter().enumerate() {
+        for (at, record) in self.records().iter().enumerate() {
             match record.finding(k - seen) {
                 Ok(mark) => return Ok((at as u8 + 1, mark)),
                 Err(here) => seen += here,
