@@ -26,6 +26,12 @@ impl<'a> Names<'a> {
         ensures value { option_map (λ x. x.now) result ≡ slice_get (name_list self.now) instance.number }
         ensures short { IfSome result (λ x. length x.now ≤ 32) }
     {
-        self.names.iter().nth(usize::from(instance.number()))
+        let n = usize::from(instance.number());
+        // Where there is no such name, none is walked past.
+        if n < self.names.len() {
+            self.names.iter().nth(n)
+        } else {
+            None
+        }
     }
 }
