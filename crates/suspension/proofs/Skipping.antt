@@ -2,9 +2,8 @@
 --     skip ns n     rule n of those that are left has this number in the book below
 --     below ns k    how many of ns are below k
 use Rattle.std.proofs.Common.{◌≡◌, ℕ, zero, suc, ◌+◌, ◌-◌, ◌<◌, ◌≤◌, true, false, cond, ◌||◌, eqb, ltb, leb, ◌⊎◌, List, [], ◌∷◌, length, get_or, drop, sym, refl, ap, ◌∙◌, subst, inl, inr, ⊎_elim, arith}
-use Rattle.std.specs.List.{slice_get, count_by}
+use Rattle.std.specs.List.{slice_get}
 use Rattle.std.proofs.lemmas.List.{at_drop_more, at_drop_all}
-use Rattle.std.proofs.lemmas.List.Sums.{sum_by-cons}
 use Rattle.std.proofs.lemmas.Bool.{and_parts, and_from, cond-true, cond-false, cond_both, leb-true, le-leb, lt-leb, lt-ltb, le-ltb, eq-eqb, ne_eqb, or_from, or_left, cases_eq}
 use Rattle.marks.specs.Sets.{among}
 use Rattle.norms.specs.Programs.{Rule}
@@ -15,7 +14,8 @@ skip [] n = n
 skip (x ∷ ns) n = skip ns (cond (leb x n) (n + 1) n)
 
 abbrev pub below : List ℕ → ℕ → ℕ
-below ns k = count_by (λ x. ltb x k) ns
+below [] k = 0
+below (x ∷ ns) k = cond (ltb x k) 1 0 + below ns k
 
 -- numbers that rise from i
 module _ (i x : ℕ) (ns : List ℕ) (rising : rising_from i (x ∷ ns) ≡ true) where
@@ -113,15 +113,12 @@ rest_nth rules ns rising n =
     let all : skip ns n - 0 ≡ skip ns n = omega arith in
     nths rules ns 0 rising n ∙ ap (λ k. slice_get rules (skip ns k - 0)) from ∙ ap (slice_get rules) all
 
-below_more : (x : ℕ) (ns : List ℕ) (k : ℕ) → below (x ∷ ns) k ≡ cond (ltb x k) 1 0 + below ns k
-below_more x ns k = sum_by-cons (λ y. cond (ltb y k) 1 0) x ns
-
 -- numbers from k on
 below_none : (k i : ℕ) (ns : List ℕ) → k ≤ i → rising_from i ns ≡ true → below ns k ≡ 0
 below_none k i [] less rising = refl
 below_none k i (x ∷ ns) less rising =
     let from = first_from i x ns rising in
-    below_more x ns k ∙ ap (λ b. cond b 1 0 + below ns k) (le-ltb x k (omega arith)) ∙ omega (arith, below_none k (x + 1) ns (omega arith) (later_from i x ns rising))
+    ap (λ b. cond b 1 0 + below ns k) (le-ltb x k (omega arith)) ∙ omega (arith, below_none k (x + 1) ns (omega arith) (later_from i x ns rising))
 
 -- how many of the rules are left
 abbrev Lengths : List (Rule ℕ) → Type 0
@@ -134,7 +131,7 @@ module _ (r : Rule ℕ) (rules : List (Rule ℕ)) (known : Lengths rules) (ns : 
   length_aside : (xs : List ℕ) × (ns ≡ i ∷ xs) × (rising_from (i + 1) xs ≡ true) → length (rest_from ns i (r ∷ rules)) + below ns (i + length (r ∷ rules)) ≡ length (r ∷ rules)
   length_aside (xs, is, later) =
       let size = ap (λ l. length (rest_from l i (r ∷ rules))) is ∙ ap length (aside_here i xs r rules) in
-      let count : below ns (i + length (r ∷ rules)) ≡ 1 + below xs (i + length (r ∷ rules)) = ap (λ l. below l (i + length (r ∷ rules))) is ∙ below_more i xs (i + length (r ∷ rules)) ∙ ap (λ b. cond b 1 0 + below xs (i + length (r ∷ rules))) (lt-ltb i (i + length (r ∷ rules)) (omega arith)) in
+      let count : below ns (i + length (r ∷ rules)) ≡ 1 + below xs (i + length (r ∷ rules)) = ap (λ l. below l (i + length (r ∷ rules))) is ∙ ap (λ b. cond b 1 0 + below xs (i + length (r ∷ rules))) (lt-ltb i (i + length (r ∷ rules)) (omega arith)) in
       let more = known xs (i + 1) later in
       let same = ap (below xs) next in
       omega arith
@@ -169,6 +166,15 @@ module _ (ns : List ℕ) (i : ℕ) (inside : i < length ns) where
   pub skip_same : (at : ℕ) → at < get_or ns i 0 → skip (drop i ns) at ≡ skip (drop (i + 1) ns) at
   skip_same at high = at_drop_more (λ l. skip l at) ns i 0 inside ∙ ap (skip (drop (i + 1) ns)) (cond-false (leb (get_or ns i 0) at) (at + 1) at (lt-leb (get_or ns i 0) at high))
 
+  pub below_one : (k : ℕ) → get_or ns i 0 < k → below (drop i ns) k ≡ 1 + below (drop (i + 1) ns) k
+  below_one k low = at_drop_more (λ l. below l k) ns i 0 inside ∙ ap (λ b. cond b 1 0 + below (drop (i + 1) ns) k) (lt-ltb (get_or ns i 0) k low)
+
+  pub below_same : (k : ℕ) → k ≤ get_or ns i 0 → below (drop i ns) k ≡ below (drop (i + 1) ns) k
+  below_same k high = at_drop_more (λ l. below l k) ns i 0 inside ∙ ap (λ b. cond b 1 0 + below (drop (i + 1) ns) k) (le-ltb (get_or ns i 0) k high) ∙ omega arith
+
 -- the end of such a loop
 pub skip_end : (ns : List ℕ) (i at : ℕ) → length ns ≤ i → skip (drop i ns) at ≡ at
 skip_end ns i at past = at_drop_all (λ l. skip l at) ns i past
+
+pub below_end : (ns : List ℕ) (i k : ℕ) → length ns ≤ i → below (drop i ns) k ≡ 0
+below_end ns i k past = at_drop_all (λ l. below l k) ns i past
