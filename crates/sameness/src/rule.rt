@@ -1,5 +1,5 @@
 // A rule of a book, as one value.
-ghost use Rattle.std.specs.Prelude.{◌≡◌, Decides};
+ghost use Rattle.std.specs.Prelude.{◌≡◌, length, Decides};
 ghost use Rattle.std.specs.List.{slice_get};
 ghost use Rattle.norms.specs.Rules.{body};
 ghost use Rattle.norms.specs.Equal.{Like, Covers};
@@ -10,27 +10,26 @@ use books::Book;
 use marks::Mark;
 use std::marker::Model;
 
-// Where the rule stands in its book, its head, and how many marks it requires and bars.
+// Where the rule stands in its book, and its head. Its counts are asked only where they are needed, since most rules
+// have different heads.
 #[derive(Drop)]
 pub(crate) struct BookRule<'a, B: Book> {
     book: &'a B,
     number: usize,
     head: Mark,
-    required: u8,
-    barred: u8,
 }
 
 // Clauses see the rule itself.
 impl<'a, B: Book> Model for BookRule<'a, B> {
     ghost use Rattle.std.specs.Prelude.{ℕ};
     ghost use Rattle.norms.specs.Programs.{Rule};
-    ghost use Rattle.sameness.specs.Told.{rule_at, ToldAt};
+    ghost use Rattle.sameness.specs.Told.{rule_at, HeadedAt};
 
     ghost Value = { Rule ℕ };
 
     ghost view = { λ r. rule_at (B.Book.rules r.book.now) r.number };
 
-    ghost invariant = { λ r. ToldAt (B.Book.rules r.book.now) r.number r.head.number r.required r.barred };
+    ghost invariant = { λ r. HeadedAt (B.Book.rules r.book.now) r.number r.head.number };
 }
 
 impl<'a, B: Book> BookRule<'a, B> {
@@ -39,13 +38,10 @@ impl<'a, B: Book> BookRule<'a, B> {
         ensures { result ≡ slice_get (B.Book.rules book.now) n }
     {
         let head = book.head(n)?;
-        let (required, barred) = book.counts(n)?;
         Some(BookRule {
             book,
             number: n,
             head,
-            required,
-            barred,
         })
     }
 
@@ -74,18 +70,27 @@ impl<'a, B: Book> BookRule<'a, B> {
             && self.barred().same_marks(&other.barred())
     }
 
+    // How many marks the rule requires, and how many it bars.
+    fn counts(&self) -> (u8, u8)
+        ensures { (result.0 ≡ length self.now.required) × (result.1 ≡ length self.now.barred) }
+    {
+        self.book.counts(self.number).unwrap_or((0, 0))
+    }
+
     // The marks that the rule requires.
     fn required(&self) -> Part<'_, 'a, B>
         ensures { result ≡ self.now.required }
     {
-        Part::new(self, 0, usize::from(self.required))
+        let (required, _) = self.counts();
+        Part::new(self, 0, usize::from(required))
     }
 
     // The marks that the rule bars.
     fn barred(&self) -> Part<'_, 'a, B>
         ensures { result ≡ self.now.barred }
     {
-        let start = usize::from(self.required);
-        Part::new(self, start, start + usize::from(self.barred))
+        let (required, barred) = self.counts();
+        let start = usize::from(required);
+        Part::new(self, start, start + usize::from(barred))
     }
 }
