@@ -1,28 +1,17 @@
 -- Marks of two bytes. Assumes nothing.
-use Rattle.std.proofs.Common.{◌≡◌, ℕ, zero, suc, ◌+◌, ◌*◌, ◌/◌, ◌<◌, ◌≤◌, List, [], ◌++◌, map, length, get_or, take, drop, sym, refl, ap, ◌∙◌, add-zero, arith}
+use Rattle.std.proofs.Common.{◌≡◌, ℕ, zero, suc, ◌+◌, ◌*◌, ◌/◌, ◌<◌, ◌≤◌, List, [], ◌++◌, map, length, get_or, take, drop, sym, refl, ap, ◌∙◌, arith}
 use Rattle.std.specs.List.{range_with_len, flat_map}
-use Rattle.std.specs.Int.{w16, from_be_bytes}
-use Rattle.std.specs.Simd.{first_chunks}
-use Rattle.std.proofs.lemmas.List.{append-nil, drop-drop, get_or-take, get_or-drop, take_all}
+use Rattle.std.proofs.lemmas.List.{append-nil, get_or-take, length-take-le, take_all}
 use Rattle.std.proofs.lemmas.List.FromFn.{fill_by_all}
 use Rattle.reading.specs.Reads.{pair, byte_pair, part}
 use Rattle.reading.proofs.Pairs.{length_pairs, pair_at, left_pair}
 use Rattle.casefile.specs.Cases.{marks_in}
 
--- the chunks of two bytes, each read as a number
-pub chunk_at : (n k : ℕ) (bs d : List ℕ) → k < n → get_or (first_chunks 2 n bs) k d ≡ take 2 (drop (2 * k) bs)
-chunk_at zero k bs d h = absurd (omega arith)
-chunk_at (suc n) zero bs d h = refl
-chunk_at (suc n) (suc k) bs d h =
-    let next : 2 + 2 * k ≡ 2 * suc k = omega arith in
-    chunk_at n k (drop 2 bs) d (omega arith) ∙ ap (take 2) (drop-drop (2 * k) 2 bs ∙ ap (λ i. drop i bs) next)
-
-pub chunk_number : (n k : ℕ) (bs d : List ℕ) → k < n → from_be_bytes w16 (get_or (first_chunks 2 n bs) k d) ≡ pair bs (2 * k)
-chunk_number n k bs d h =
-    let i = 2 * k in
-    let high : get_or (take 2 (drop i bs)) 0 0 ≡ get_or bs i 0 = get_or-take 2 (drop i bs) 0 0 (omega arith) ∙ get_or-drop i bs 0 0 ∙ ap (λ j. get_or bs j 0) (add-zero i) in
-    let low : get_or (take 2 (drop i bs)) 1 0 ≡ get_or bs (i + 1) 0 = get_or-take 2 (drop i bs) 1 0 (omega arith) ∙ get_or-drop i bs 1 0 in
-    ap (from_be_bytes w16) (chunk_at n k bs d h) ∙ omega arith
+-- marks that are kept one by one
+pub take_marks : (ms bs : List ℕ) → length bs / 2 ≤ length ms → ((k : ℕ) → k < length bs / 2 → get_or ms k 0 ≡ pair bs (2 * k)) → take (length bs / 2) ms ≡ marks_in bs
+take_marks ms bs room each =
+    let n = length bs / 2 in
+    fill_by_all (λ j. pair bs (2 * j)) (take n ms) n 0 (length-take-le n ms room) (λ k h. get_or-take n ms k 0 h ∙ each k h)
 
 -- marks are read back from their bytes
 pub marks_back : (ms : List ℕ) → marks_in (flat_map byte_pair ms) ≡ ms

@@ -1,10 +1,39 @@
 // The marks that are kept of a step, and their reading from bytes.
 ghost use Rattle.std.specs.Prelude.{◌≡◌, ◌≤◌, [], length};
 ghost use Rattle.casefile.specs.Cases.{marks_in};
-ghost use Rattle.casefile.specs.Lists.{said_of, proposed_of};
+ghost use Rattle.casefile.specs.Lists.{marks_of, said_of, proposed_of};
 
 use crate::lists::{MarkList, StepLists};
-use arrayvec::ArrayVec;
+
+impl MarkList {
+    fn empty() -> MarkList
+        ensures { marks_of result ≡ [] }
+    {
+        MarkList {
+            marks: [0; 1024],
+            count: 0,
+        }
+    }
+
+    fn marks(&self) -> &[u16]
+        ensures value { result.now ≡ marks_of self.now }
+        ensures short { length result.now ≤ 1024 }
+    {
+        &self.marks[0..self.count]
+    }
+
+    // The marks of these bytes, two bytes to a mark.
+    fn fill(&mut self, bytes: &[u8])
+        requires { length bytes.now ≤ 2048 }
+        ensures { marks_of self.new ≡ marks_in bytes.now }
+    {
+        let count = bytes.len() / 2;
+        for i in 0..count {
+            self.marks[i] = bytes[2 * i] as u16 * 256 + bytes[2 * i + 1] as u16;
+        }
+        self.count = count;
+    }
+}
 
 impl StepLists {
     // Two lists with no marks.
@@ -13,8 +42,8 @@ impl StepLists {
         ensures proposed { proposed_of result ≡ [] }
     {
         StepLists {
-            said: ArrayVec::new(),
-            proposed: ArrayVec::new(),
+            said: MarkList::empty(),
+            proposed: MarkList::empty(),
         }
     }
 
@@ -22,14 +51,14 @@ impl StepLists {
         ensures value { result.now ≡ said_of self.now }
         ensures short { length result.now ≤ 1024 }
     {
-        self.said.as_slice()
+        self.said.marks()
     }
 
     pub fn proposed(&self) -> &[u16]
         ensures value { result.now ≡ proposed_of self.now }
         ensures short { length result.now ≤ 1024 }
     {
-        self.proposed.as_slice()
+        self.proposed.marks()
     }
 
     // The marks of these bytes, two bytes to a mark.
@@ -38,19 +67,7 @@ impl StepLists {
         ensures said { said_of self.new ≡ marks_in said.now }
         ensures proposed { proposed_of self.new ≡ marks_in proposed.now }
     {
-        fill(&mut self.said, said);
-        fill(&mut self.proposed, proposed);
-    }
-}
-
-// The marks of these bytes, two bytes to a mark.
-fn fill(marks: &mut MarkList, bytes: &[u8])
-    requires { length bytes.now ≤ 2048 }
-    ensures { marks.new.items ≡ marks_in bytes.now }
-{
-    marks.clear();
-    let (pairs, _) = bytes.as_chunks::<2>();
-    for pair in pairs {
-        marks.push(u16::from_be_bytes(*pair));
+        self.said.fill(said);
+        self.proposed.fill(proposed);
     }
 }
