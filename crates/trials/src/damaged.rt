@@ -16,6 +16,16 @@ fn told_of_damage(at: usize, byte: u8) -> Option<Told>
     told(check_book(&bytes))
 }
 
+// What is told of a file names its section, and each section has a number.
+#[test]
+fn sections_in_order(rt: HostRuntime) {
+    assert_eq!(rt; Section::Rules.number(), 1);
+    assert_eq!(rt; Section::Names.number(), 2);
+    assert_eq!(rt; Section::End.number(), 3);
+    assert_eq!(rt; Section::Case.number(), 4);
+    assert_eq!(rt; Section::Series.number(), 5);
+}
+
 #[test]
 fn damaged_books(rt: HostRuntime) {
     assert_eq!(rt; told(check_book(&BOOK)), None);
