@@ -81,8 +81,6 @@ impl PlacedName<'_> {
     }
 
     // Whether the name is none of the earlier ones.
-    // Kept: not compiled into its caller, where the walk over the names takes twice the time.
-    #[inline(never)]
     fn check_new(&self, earlier: &NameTable<'_>) -> Result<(), NameFault>
         ensures { answered name_told result ≡ passes tt (first_below earlier.now.count (apart_check self.now.item self.now.at earlier.now.bytes.now earlier.now.from self.now.name.now)) }
     {
